@@ -1,0 +1,164 @@
+-- Laws of births and used links along a list of ears: what is born or used before an ear, where a switch is born, what one more ear
+-- does, and that a list is accepted exactly when each of its ears passes.
+use mathlib.Core.Path.{_≡_, refl, sym, ap, ap₂, _∙_, subst}
+use mathlib.Core.Logic.{_⊎_, inl, inr, ⊎-elim}
+use mathlib.Core.Bool.{Bool, true, false, _||_}
+use mathlib.Core.List.{List, [], _∷_, _++_}
+use Prim.Native.Nat.{ℕ, zero, suc, _≤_, _<_}
+use native.Mathlib.Omega.{arith}
+use native.Mathlib.Numerals.{add-one}
+use lib.Dec.{eqb}
+use lib.ListN.{length, take, length-take, length-append, List·getD-append}
+use lib.Seq.{getD-take, getD-at, length-take-le, take-append-le, take-at}
+use borrow.Author.Tests.{ne-eqb}
+use Rattle.mondschein.specs.Network.{low, any, Network, at, In, holds, passes, Ears, earAt, born, birth, trail, used, newCount}
+use Rattle.mondschein.specs.Judge.{Answer, given, verdict, judge, Accepted}
+use Rattle.mondschein.specs.Mondschein.{Before, Birth}
+use Rattle.mondschein.proofs.Logic.{clash, less?, trichotomy}
+use Rattle.mondschein.proofs.Search.{IsLow, low-is, low-eq, any-true, any-false, true-any, any-suc, any-ext}
+use Rattle.mondschein.proofs.Lists.{holds-in, in-holds}
+use Rattle.mondschein.proofs.Checks.{Passed, given-passed, passed-given}
+
+pub born-at : (es : Ears) (x : ℕ) → born es x ≡ true → (i : ℕ) × (i < length es) × (holds (earAt es i) x ≡ true)
+unfolding born
+born-at es x h = any-true _ (length es) h
+
+pub at-born : (es : Ears) (x i : ℕ) → i < length es → holds (earAt es i) x ≡ true → born es x ≡ true
+unfolding born
+at-born es x i l h = true-any _ (length es) i l h
+
+pub unborn-at : (es : Ears) (x : ℕ) → born es x ≡ false → (i : ℕ) → i < length es → holds (earAt es i) x ≡ false
+unfolding born
+unborn-at es x h = any-false _ (length es) h
+
+pub earlier : (es : Ears) (i j : ℕ) → j < i → earAt (take i es) j ≡ earAt es j
+earlier es i j l = getD-take i es j [] l
+
+pub born-take : (es : Ears) (i x : ℕ) → born (take i es) x ≡ true → (j : ℕ) × (j < i) × (j < length es) × (holds (earAt es j) x ≡ true)
+born-take es i x h =
+    let (j, l, q) = born-at (take i es) x h in
+    let m : (j < i) × (j < length es) = omega (arith, length-take i es, l) in
+    (j, m .0, m .1, subst (λ (e : List ℕ). holds e x ≡ true) (earlier es i j (m .0)) q)
+
+pub take-born : (es : Ears) (i x j : ℕ) → j < i → j < length es → holds (earAt es j) x ≡ true → born (take i es) x ≡ true
+take-born es i x j l m h =
+    at-born (take i es) x j (omega (arith, length-take i es)) (subst (λ (e : List ℕ). holds e x ≡ true) (sym (earlier es i j l)) h)
+
+-- the birth ear holds the switch, and no earlier ear does
+pub birth-is : (es : Ears) (x : ℕ) → IsLow (λ i. holds (earAt es i) x) (length es) (birth es x)
+unfolding birth
+birth-is es x = low-is (λ i. holds (earAt es i) x) (length es)
+
+pub birth-le : (es : Ears) (x i : ℕ) → i < length es → holds (earAt es i) x ≡ true → birth es x ≤ i
+birth-le es x i l h = ⊎-elim (λ m. clash h (birth-is es x .before i m)) (λ m. m) (less? i (birth es x))
+
+pub birth-lt : (es : Ears) (x : ℕ) → born es x ≡ true → birth es x < length es
+birth-lt es x h = let (i, l, q) = born-at es x h in omega (arith, birth-le es x i l q)
+
+-- Definition 3's birth is `birth`
+pub birth-birth : (es : Ears) (x : ℕ) → born es x ≡ true → Birth es (birth es x) x
+birth-birth es x h =
+    let l = birth-lt es x h in
+    record {
+      below = l;
+      on = holds-in (earAt es (birth es x)) x (birth-is es x .hit l);
+      minimal = λ (j, m, o). clash (in-holds (earAt es j) x o) (birth-is es x .before j m);
+    }
+
+pub birth-unique : (es : Ears) (i x : ℕ) → Birth es i x → birth es x ≡ i
+birth-unique es i x b =
+    let le = birth-le es x i (b .below) (in-holds (earAt es i) x (b .on)) in
+    let l : birth es x < length es = omega (arith, le, b .below) in
+    ⊎-elim
+    (λ (m : birth es x < i). absurd (b .minimal (birth es x, m, holds-in (earAt es (birth es x)) x (birth-is es x .hit l))))
+    (λ (m : i ≤ birth es x). omega arith)
+    (less? (birth es x) i)
+
+-- a test of one more ear than a list has
+any-snoc : (es : Ears) (e : List ℕ) (p : ℕ → List ℕ → Bool) → any (λ i. p i (earAt (es ++ (e ∷ [])) i)) (length (es ++ (e ∷ []))) ≡ (any (λ i. p i (earAt es i)) (length es) || p (length es) e)
+any-snoc es e p =
+    ap (any (λ i. p i (earAt (es ++ (e ∷ [])) i))) (length-append es (e ∷ []) ∙ add-one (length es))
+    ∙ any-suc (λ i. p i (earAt (es ++ (e ∷ [])) i)) (length es)
+    ∙ ap₂ _||_
+    (any-ext _ _ (length es) (λ k l. ap (p k) (List·getD-append es (e ∷ []) [] k l)))
+    (ap (p (length es)) (getD-at es e [] [] (length es) refl))
+
+pub born-snoc : (es : Ears) (e : List ℕ) (x : ℕ) → born (es ++ (e ∷ [])) x ≡ (born es x || holds e x)
+unfolding born
+born-snoc es e x = any-snoc es e (λ i d. holds d x)
+
+pub used-snoc : (net : Network) (es : Ears) (e : List ℕ) (l : ℕ) → used net (es ++ (e ∷ [])) l ≡ (used net es l || passes net (trail (eqb (length es) 0) e) l)
+unfolding used
+used-snoc net es e l = any-snoc es e (λ i d. passes net (trail (eqb i 0) d) l)
+
+module _ (es : Ears) (e : List ℕ) where
+  abbrev more : Ears
+  more = es ++ (e ∷ [])
+
+  more-length : length more ≡ suc (length es)
+  more-length = length-append es (e ∷ []) ∙ add-one (length es)
+
+  old-ear : (i : ℕ) → i < length es → earAt more i ≡ earAt es i
+  old-ear i l = List·getD-append es (e ∷ []) [] i l
+
+  new-ear : earAt more (length es) ≡ e
+  new-ear = getD-at es e [] [] (length es) refl
+
+  pub birth-old : (x : ℕ) → born es x ≡ true → birth more x ≡ birth es x
+  unfolding birth
+  birth-old x h =
+      let l = birth-lt es x h in
+      low-eq (λ i. holds (earAt more i) x) (length more) (birth es x)
+      record {
+        le = omega (arith, more-length);
+        before = λ j m. ap (λ (d : List ℕ). holds d x) (old-ear j (omega arith)) ∙ birth-is es x .before j m;
+        hit = λ _. ap (λ (d : List ℕ). holds d x) (old-ear (birth es x) l) ∙ birth-is es x .hit l;
+      }
+
+  pub birth-new : (x : ℕ) → born es x ≡ false → holds e x ≡ true → birth more x ≡ length es
+  unfolding birth
+  birth-new x u h =
+      low-eq (λ i. holds (earAt more i) x) (length more) (length es)
+      record {
+        le = omega (arith, more-length);
+        before = λ j m. ap (λ (d : List ℕ). holds d x) (old-ear j m) ∙ unborn-at es x u j m;
+        hit = λ _. ap (λ (d : List ℕ). holds d x) new-ear ∙ h;
+      }
+
+-- each ear of the list passes every check, where those before it are born and used
+abbrev pub Passing : Network → Ears → Type 0
+Passing net es = (i : ℕ) → i < length es → Passed net (take i es) (eqb i 0) (earAt es i)
+
+module _ (net : Network) (es : Ears) where
+  pub accepted-passing : Accepted net es → Passing net es
+  unfolding judge
+  accepted-passing a i l =
+      let (k, q) = a i l in
+      given-passed net (take i es) (eqb i 0) (earAt es i) (k ∷ [])
+      (subst (λ (n : ℕ). verdict net (born (take i es)) (used net (take i es)) (eqb n 0) (earAt es i) ≡ given (k ∷ [])) (length-take-le i es (omega arith)) q)
+
+  -- the count that an accepted ear gives
+  pub passed-judged : Passing net es → (i : ℕ) → i < length es → judge net (take i es) (earAt es i) ≡ given (newCount (eqb i 0) (length (earAt es i)) ∷ [])
+  unfolding judge
+  passed-judged p i l =
+      subst (λ (n : ℕ). verdict net (born (take i es)) (used net (take i es)) (eqb n 0) (earAt es i) ≡ given (newCount (eqb i 0) (length (earAt es i)) ∷ []))
+      (sym (length-take-le i es (omega arith))) (passed-given net (take i es) (eqb i 0) (earAt es i) (p i l))
+
+  pub passing-accepted : Passing net es → Accepted net es
+  passing-accepted p i l = (newCount (eqb i 0) (length (earAt es i)), passed-judged p i l)
+
+  module _ (acc : Passing net es) where
+    pub first-passed : 0 < length es → Passed net [] true (earAt es 0)
+    first-passed l = acc 0 l
+
+    pub later-passed : (i : ℕ) → suc i < length es → Passed net (take (suc i) es) false (earAt es (suc i))
+    later-passed i l = subst (λ (b : Bool). Passed net (take (suc i) es) b (earAt es (suc i))) (ne-eqb (suc i) 0 (omega arith)) (acc (suc i) l)
+
+  pub accepted-snoc : (e : List ℕ) (k : ℕ) → Accepted net es → judge net es e ≡ given (k ∷ []) → Accepted net (es ++ (e ∷ []))
+  accepted-snoc e k a q i l =
+      ⊎-elim
+      (λ (m : i < length es). rw (take-append-le i es (e ∷ []) (omega arith), List·getD-append es (e ∷ []) [] i m) (a i m))
+      (λ (m : length es ≤ i).
+      let z : length es ≡ i = omega (arith, length-append es (e ∷ [])) in
+      rw (take-at es (e ∷ []) i z, getD-at es e [] [] i z) (k, q))
+      (less? i (length es))

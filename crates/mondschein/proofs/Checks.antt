@@ -1,0 +1,187 @@
+-- Laws of the checks: an ear is accepted exactly when no check finds a bad place, what that says of its switches and links, and that
+-- the judge asks only which switches below N are born and which links below M are used.
+use mathlib.Core.Path.{_≡_, refl, sym, ap, _∙_, subst}
+use mathlib.Core.Logic.{_⊎_, inl, inr, ⊎-elim, _≢_}
+use mathlib.Core.Bool.{Bool, true, false, not, _&&_, _||_, cond}
+use mathlib.Core.List.{List, [], _∷_}
+use Prim.Native.Nat.{ℕ, suc, pred, _≤_, _<_}
+use native.Mathlib.Omega.{arith}
+use lib.Dec.{eqb, ltb, leb}
+use lib.ListN.{length}
+use borrow.Author.Tests.{ltb-false, lt-ltb, le-ltb, leb-false, eqb-true, eqb-false, eq-eqb, ne-eqb, not-true, not-false}
+use Rattle.mondschein.specs.Network.{low, any, Network, at, Simple, holds, size, joined, linkOf, Ears, born, used, isNew, newCount}
+use Rattle.mondschein.specs.Judge.{Answer, given, refused, check, wrongLength, tooLarge, repeated, notJoined, usedAlready, wrongCycle, unbornEnd, bornBetween, otherNew, otherUnborn, rootEnd, lastEarly, noneUnborn, verdict, closing}
+use Rattle.mondschein.proofs.Logic.{which, clash, trichotomy, and-true, true-and, or-true, or-false, and-false, false-and}
+use Rattle.mondschein.proofs.Search.{low-is, low-none, low-ext, any-true, any-false, any-ext}
+use Rattle.mondschein.proofs.Links.{link-found}
+
+-- no position below c is bad
+abbrev pub Clear : ℕ → (ℕ → Bool) → Type 0
+Clear c bad = (k : ℕ) → k < c → bad k ≡ false
+
+pub check-given : (num c : ℕ) (bad : ℕ → Bool) (after : Answer) (vs : List ℕ) → check num c bad after ≡ given vs → Clear c bad × (after ≡ given vs)
+unfolding check
+check-given num c bad after vs e = go (ltb (low bad c) c) refl e
+  where
+    go : (b : Bool) → ltb (low bad c) c ≡ b → cond b (refused num (low bad c)) after ≡ given vs → Clear c bad × (after ≡ given vs)
+    go true h q = let z : _≡_ {A = ℕ} 0 1 = cc in absurd (omega arith)
+    go false h q = (λ j l. low-is bad c .before j (omega (arith, ltb-false (low bad c) c h)), q)
+
+pub check-pass : (num c : ℕ) (bad : ℕ → Bool) (after : Answer) → Clear c bad → check num c bad after ≡ after
+unfolding check
+check-pass num c bad after h =
+    rw (low-none bad c h, le-ltb c c (omega arith))
+
+-- every check of an ear is clear
+pub record Passed (net : Network) (es : Ears) (b : Bool) (e : List ℕ) : Type 0 where
+  pub clear7 : Clear 1 (wrongLength net (born es) (used net es) b e)
+  pub clear8 : Clear (length e) (tooLarge net (born es) (used net es) b e)
+  pub clear9 : Clear (length e) (repeated net (born es) (used net es) b e)
+  pub clear10 : Clear (pred (length e)) (notJoined net (born es) (used net es) b e)
+  pub clear11 : Clear (pred (length e)) (usedAlready net (born es) (used net es) b e)
+  pub clear12 : Clear 1 (wrongCycle net (born es) (used net es) b e)
+  pub clear13 : Clear (length e) (unbornEnd net (born es) (used net es) b e)
+  pub clear14 : Clear (length e) (bornBetween net (born es) (used net es) b e)
+  pub clear15 : Clear (length e) (lastEarly net (born es) (used net es) b e)
+  pub clear16 : Clear (length e) (noneUnborn net (born es) (used net es) b e)
+
+module _ (net : Network) (es : Ears) (b : Bool) (e : List ℕ) where
+  pub given-passed : (vs : List ℕ) → verdict net (born es) (used net es) b e ≡ given vs → Passed net es b e
+  unfolding verdict
+  given-passed vs q =
+      let (c7, q7) = check-given _ _ _ _ vs q in
+      let (c8, q8) = check-given _ _ _ _ vs q7 in
+      let (c9, q9) = check-given _ _ _ _ vs q8 in
+      let (c10, q10) = check-given _ _ _ _ vs q9 in
+      let (c11, q11) = check-given _ _ _ _ vs q10 in
+      let (c12, q12) = check-given _ _ _ _ vs q11 in
+      let (c13, q13) = check-given _ _ _ _ vs q12 in
+      let (c14, q14) = check-given _ _ _ _ vs q13 in
+      let (c15, q15) = check-given _ _ _ _ vs q14 in
+      let (c16, q16) = check-given _ _ _ _ vs q15 in
+      record { clear7 = c7; clear8 = c8; clear9 = c9; clear10 = c10; clear11 = c11; clear12 = c12; clear13 = c13; clear14 = c14; clear15 = c15; clear16 = c16 }
+
+  pub passed-given : Passed net es b e → verdict net (born es) (used net es) b e ≡ given (newCount b (length e) ∷ [])
+  unfolding verdict
+  passed-given p =
+      check-pass _ _ _ _ (p .clear7)
+      ∙ check-pass _ _ _ _ (p .clear8)
+      ∙ check-pass _ _ _ _ (p .clear9)
+      ∙ check-pass _ _ _ _ (p .clear10)
+      ∙ check-pass _ _ _ _ (p .clear11)
+      ∙ check-pass _ _ _ _ (p .clear12)
+      ∙ check-pass _ _ _ _ (p .clear13)
+      ∙ check-pass _ _ _ _ (p .clear14)
+      ∙ check-pass _ _ _ _ (p .clear15)
+      ∙ check-pass _ _ _ _ (p .clear16)
+
+-- what a passed ear is
+module _ (net : Network) (es : Ears) (b : Bool) (e : List ℕ) (p : Passed net es b e) where
+  pub ear-long : cond b 3 2 ≤ length e
+  unfolding wrongLength
+  ear-long = ltb-false (length e) (cond b 3 2) (or-false _ _ (p .clear7 0 (omega arith)) .0)
+
+  pub ear-below : (k : ℕ) → k < length e → at e k < net .n
+  unfolding tooLarge
+  ear-below k l = leb-false (net .n) (at e k) (p .clear8 k l)
+
+  pub ear-simple : Simple e
+  unfolding repeated
+  ear-simple j k l m q =
+      ⊎-elim
+      (λ h. absurd (eqb-false (at e j) (at e k) (any-false _ k (p .clear9 k m) j h) q))
+      (⊎-elim (λ h. absurd (eqb-false (at e k) (at e j) (any-false _ j (p .clear9 j l) k h) (sym q))) (λ h. h))
+      (trichotomy j k)
+
+  pub ear-linked : (k : ℕ) → suc k < length e → joined net (at e k) (at e (suc k)) ≡ true
+  unfolding notJoined
+  ear-linked k l = not-false _ (p .clear10 k (omega arith))
+
+  pub ear-unused : (k : ℕ) → suc k < length e → used net es (linkOf net (at e k) (at e (suc k))) ≡ false
+  unfolding usedAlready
+  ear-unused k l = p .clear11 k (omega arith)
+
+  -- an unborn neighbour
+  pub ear-neighbour : (k : ℕ) → k < length e → isNew b (length e) k ≡ true → at e k ≢ net .last
+      → (x : ℕ) × (x < net .n) × (joined net (at e k) x ≡ true) × (born es x ≡ false) × (holds e x ≡ false)
+  unfolding noneUnborn
+  ear-neighbour k l f d =
+      let c = and-false _ _ (and-false _ _ (p .clear16 k l) f) (ap not (ne-eqb (at e k) (net .last) d)) in
+      let (x, m, t) = any-true _ (net .n) (not-false _ c) in
+      let (j, u) = and-true _ _ t in
+      let (g, h) = or-false _ _ (not-true _ u) in
+      (x, m, j, g, h)
+
+  -- the last switch is alone
+  pub ear-alone : (k : ℕ) → k < length e → isNew b (length e) k ≡ true → at e k ≡ net .last
+      → ((j : ℕ) → j < length e → isNew b (length e) j ≡ true → j ≡ k)
+      × ((x : ℕ) → x < net .n → x ≢ net .last → (born es x || holds e x) ≡ true)
+      × (at e 0 ≢ net .root) × (at e (pred (length e)) ≢ net .root)
+  unfolding lastEarly otherNew otherUnborn rootEnd
+  ear-alone k l f q =
+      let c = and-false _ _ (and-false _ _ (p .clear15 k l) f) (eq-eqb (at e k) (net .last) q) in
+      let (c1, c′) = or-false (otherNew net (born es) (used net es) b e k) (otherUnborn net (born es) (used net es) b e || rootEnd net (born es) (used net es) b e) c in
+      let (c2, c″) = or-false (otherUnborn net (born es) (used net es) b e) (rootEnd net (born es) (used net es) b e) c′ in
+      let (c3, c4) = or-false _ _ c″ in (
+        λ j m g. eqb-true j k (not-false _ (and-false _ _ (any-false (λ i. isNew b (length e) i && not (eqb i k)) (length e) c1 j m) g)),
+        λ x m d. not-false _ (and-false _ _ (any-false (λ y. not (eqb y (net .last)) && not (born es y || holds e y)) (net .n) c2 x m) (ap not (ne-eqb x (net .last) d))),
+        eqb-false _ _ c3,
+        eqb-false _ _ c4,
+      )
+
+module _ (net : Network) (es : Ears) (e : List ℕ) where
+  pub first-ends : Passed net es true e → (at e 0 ≡ net .root) × (at e (pred (length e)) ≡ net .first)
+  unfolding wrongCycle
+  first-ends p = let (a, z) = and-true _ _ (not-false _ (p .clear12 0 (omega arith))) in (eqb-true _ _ a, eqb-true _ _ z)
+
+  module _ (p : Passed net es false e) where
+    pub later-start : born es (at e 0) ≡ true
+    unfolding unbornEnd isNew
+    later-start = not-false _ (p .clear13 0 (omega (arith, ear-long net es false e p)))
+
+    pub later-end : born es (at e (pred (length e))) ≡ true
+    unfolding unbornEnd isNew
+    later-end =
+        let t = ear-long net es false e p in
+        let k = pred (length e) in
+        not-false _
+        (and-false _ _ (p .clear13 k (omega arith))
+        (ap not (false-and (ltb 0 k) _ (λ _. le-ltb (suc k) (length e) (omega arith)))))
+
+    pub later-inner : (k : ℕ) → 0 < k → suc k < length e → born es (at e k) ≡ false
+    unfolding bornBetween isNew
+    later-inner k l m = and-false _ _ (p .clear14 k (omega arith)) (true-and _ _ (lt-ltb 0 k l) (lt-ltb (suc k) (length e) m))
+
+-- two checks agree when their places do, and what comes after does where they are clear
+pub check-ext : (num c : ℕ) (p q : ℕ → Bool) (a z : Answer) → ((k : ℕ) → k < c → p k ≡ q k) → (Clear c p → a ≡ z) → check num c p a ≡ check num c q z
+unfolding check
+check-ext num c p q a z e h =
+    subst (λ (k : ℕ). cond (ltb (low p c) c) (refused num (low p c)) a ≡ cond (ltb k c) (refused num k) z) (low-ext p q c e) (go (ltb (low p c) c) refl)
+  where
+    go : (b : Bool) → ltb (low p c) c ≡ b → cond b (refused num (low p c)) a ≡ cond b (refused num (low p c)) z
+    go true t = refl
+    go false t = h (λ k l. low-is p c .before k (omega (arith, ltb-false (low p c) c t)))
+
+module _ (net : Network) (b : Bool) (e : List ℕ) (born₁ born₂ used₁ used₂ : ℕ → Bool)
+    (sb : (x : ℕ) → x < net .n → born₁ x ≡ born₂ x) (su : (l : ℕ) → l < size net → used₁ l ≡ used₂ l) where
+  pub verdict-ext : verdict net born₁ used₁ b e ≡ verdict net born₂ used₂ b e
+  unfolding verdict wrongLength tooLarge repeated notJoined usedAlready wrongCycle unbornEnd bornBetween otherNew otherUnborn rootEnd lastEarly noneUnborn
+  verdict-ext =
+      check-ext 7 _ _ _ _ _ (λ k l. refl) (λ c7.
+      check-ext 8 _ _ _ _ _ (λ k l. refl) (λ c8.
+      check-ext 9 _ _ _ _ _ (λ k l. refl) (λ c9.
+      check-ext 10 _ _ _ _ _ (λ k l. refl) (λ c10.
+      check-ext 11 _ _ _ _ _ (λ k l. su _ (link-found net _ _ (not-false _ (c10 k l)) .0)) (λ c11.
+      check-ext 12 _ _ _ _ _ (λ k l. refl) (λ c12.
+      check-ext 13 _ _ _ _ _ (λ k l. ap (λ (t : Bool). not b && (not (isNew b (length e) k) && not t)) (sb _ (leb-false _ _ (c8 k l)))) (λ c13.
+      check-ext 14 _ _ _ _ _ (λ k l. ap (λ (t : Bool). not b && (isNew b (length e) k && t)) (sb _ (leb-false _ _ (c8 k l)))) (λ c14.
+      check-ext 15 _ _ _ _ _ (λ k l. ap (λ (t : Bool). isNew b (length e) k && (eqb (at e k) (net .last) && (otherNew net born₁ used₁ b e k || (t || rootEnd net born₁ used₁ b e))))
+      (any-ext (λ x. not (eqb x (net .last)) && not (born₁ x || holds e x)) (λ x. not (eqb x (net .last)) && not (born₂ x || holds e x)) (net .n)
+      (λ x m. ap (λ (t : Bool). not (eqb x (net .last)) && not (t || holds e x)) (sb x m)))) (λ c15.
+      check-ext 16 _ _ _ _ _ (λ k l. ap (λ (t : Bool). isNew b (length e) k && (not (eqb (at e k) (net .last)) && not t))
+      (any-ext (λ x. joined net (at e k) x && not (born₁ x || holds e x)) (λ x. joined net (at e k) x && not (born₂ x || holds e x)) (net .n)
+      (λ x m. ap (λ (t : Bool). joined net (at e k) x && not (t || holds e x)) (sb x m)))) (λ c16. refl))))))))))
+
+pub closing-ext : (net : Network) (used₁ used₂ : ℕ → Bool) → ((l : ℕ) → l < size net → used₁ l ≡ used₂ l) → closing net used₁ ≡ closing net used₂
+unfolding closing
+closing-ext net used₁ used₂ h = check-ext 23 _ _ _ _ _ (λ l m. ap not (h l m)) (λ c. refl)

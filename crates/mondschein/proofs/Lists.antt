@@ -1,0 +1,103 @@
+-- Laws of lists of numbers: what stands in them, lists that repeat nothing, and lists turned round.
+-- `holds` decides `In`.
+use mathlib.Core.Path.{_≡_, refl, sym, ap, _∙_, subst}
+use mathlib.Core.Logic.{_⊎_, inl, inr, ⊎-elim, _≢_}
+use mathlib.Core.Bool.{Bool, true, false}
+use mathlib.Core.List.{List, [], _∷_, _++_, reverse, reverse-cons}
+use Prim.Native.Nat.{ℕ, zero, suc, _-_, _≤_, _<_}
+use native.Mathlib.Omega.{arith}
+use lib.Dec.{eqb}
+use lib.ListN.{length, List·getD-append}
+use lib.ListN as L
+use lib.Seq.{getD-at}
+use borrow.Author.Tests.{eqb-true, eq-eqb}
+use Rattle.mondschein.specs.Network.{any, count, at, In, Simple, holds}
+use Rattle.mondschein.proofs.Logic.{which, clash, trichotomy}
+use Rattle.mondschein.proofs.Search.{any-true, true-any, count-lt, count-bound}
+
+pub holds-in : (l : List ℕ) (x : ℕ) → holds l x ≡ true → (k : ℕ) × (k < length l) × (at l k ≡ x)
+unfolding holds
+holds-in l x h = let w = any-true (λ k. eqb (at l k) x) (length l) h in (w .0, w .1, eqb-true _ _ (w .2))
+
+pub holds-at : (l : List ℕ) (k : ℕ) → k < length l → holds l (at l k) ≡ true
+unfolding holds
+holds-at l k h = true-any (λ j. eqb (at l j) (at l k)) (length l) k h (eq-eqb (at l k) (at l k) refl)
+
+pub holds-by : (l : List ℕ) (k x : ℕ) → k < length l → at l k ≡ x → holds l x ≡ true
+holds-by l k x h e = subst (λ (y : ℕ). holds l y ≡ true) e (holds-at l k h)
+
+pub holds-here : (y : ℕ) (l : List ℕ) → holds (y ∷ l) y ≡ true
+holds-here y l = holds-at (y ∷ l) 0 (omega arith)
+
+pub holds-there : (y : ℕ) (l : List ℕ) (x : ℕ) → holds l x ≡ true → holds (y ∷ l) x ≡ true
+holds-there y l x h =
+    let w = holds-in l x h in
+    subst (λ (z : ℕ). holds (y ∷ l) z ≡ true) (w .2) (holds-at (y ∷ l) (suc (w .0)) (omega (arith, w .1)))
+
+pub holds-cons : (y : ℕ) (l : List ℕ) (x : ℕ) → holds (y ∷ l) x ≡ true → (y ≡ x) ⊎ (holds l x ≡ true)
+holds-cons y l x h = let w = holds-in (y ∷ l) x h in go (w .0) (w .1) (w .2)
+  where
+    go : (k : ℕ) → k < suc (length l) → at (y ∷ l) k ≡ x → (y ≡ x) ⊎ (holds l x ≡ true)
+    go zero m e = inl e
+    go (suc k) m e = inr (subst (λ (z : ℕ). holds l z ≡ true) e (holds-at l k (omega arith)))
+
+pub holds-nil : {X : Type 0} (x : ℕ) → holds [] x ≡ true → X
+holds-nil x h = let w = holds-in [] x h in absurd (omega (arith, w .1))
+
+pub in-holds : (l : List ℕ) (x : ℕ) → In l x → holds l x ≡ true
+in-holds l x (k, h, e) = holds-by l k x h e
+
+pub out-holds : (l : List ℕ) (x : ℕ) → (In l x → ⊥) → holds l x ≡ false
+out-holds l x h = ⊎-elim (λ t. absurd (h (holds-in l x t))) (λ f. f) (which (holds l x))
+
+pub absent : (l : List ℕ) (x : ℕ) → holds l x ≡ false → (k : ℕ) → k < length l → at l k ≢ x
+absent l x f k h e = clash (subst (λ (y : ℕ). holds l y ≡ true) e (holds-at l k h)) f
+
+pub at-same : (l : List ℕ) (j k : ℕ) → j ≡ k → at l j ≡ at l k
+at-same l j k e = ap (at l) e
+
+pub at-reverse : (l : List ℕ) (k : ℕ) → k < length l → at (reverse l) k ≡ at l (length l - suc k)
+at-reverse [] k h = absurd (omega arith)
+at-reverse (x ∷ l) k h =
+    rw reverse-cons
+    (⊎-elim
+    (λ (m : k < length l).
+    List·getD-append (reverse l) (x ∷ []) 0 k (omega (arith, L.length-reverse l))
+    ∙ at-reverse l k m
+    ∙ at-same (x ∷ l) (suc (length l - suc k)) (suc (length l) - suc k) (omega arith))
+    (⊎-elim
+    (λ m. absurd (omega arith))
+    (λ m.
+    getD-at (reverse l) x [] 0 k (L.length-reverse l ∙ sym m)
+    ∙ at-same (x ∷ l) 0 (suc (length l) - suc k) (omega arith)))
+    (trichotomy k (length l)))
+
+unfoldable Distinct : List ℕ → Type 0
+Distinct [] = Unit {0}
+Distinct (x ∷ l) = (holds l x ≡ false) × Distinct l
+
+distinct-length : (n : ℕ) (l : List ℕ) → Distinct l → ((x : ℕ) → holds l x ≡ true → x < n) → length l ≤ n
+unfolding Distinct
+distinct-length n l d b = omega (arith, go l d b, count-bound (holds l) n)
+  where
+    go : (l : List ℕ) → Distinct l → ((x : ℕ) → holds l x ≡ true → x < n) → length l ≤ count (holds l) n
+    go [] d b = omega arith
+    go (x ∷ l) d b =
+        omega (
+          arith,
+          go l (d .1) (λ y h. b y (holds-there x l y h)),
+          count-lt (holds l) (holds (x ∷ l)) n (λ k m h. holds-there x l k h) x (b x (holds-here x l)) (d .0) (holds-here x l),
+        )
+
+-- a list that repeats nothing is Distinct
+simple-distinct : (l : List ℕ) → Simple l → Distinct l
+unfolding Distinct
+simple-distinct [] d = tt
+simple-distinct (x ∷ l) d = (
+  ⊎-elim (λ h. let (k, m, q) = holds-in l x h in let z = d 0 (suc k) (omega arith) (omega (arith, m)) (sym q) in absurd (omega arith)) (λ f. f) (which (holds l x)),
+  simple-distinct l (λ j k a b q. let z = d (suc j) (suc k) (omega arith) (omega arith) q in omega arith),
+)
+
+-- a list of different numbers below n has at most n
+pub simple-length : (n : ℕ) (l : List ℕ) → Simple l → ((x : ℕ) → In l x → x < n) → length l ≤ n
+simple-length n l d b = distinct-length n l (simple-distinct l d) (λ x h. b x (holds-in l x h))

@@ -1,0 +1,158 @@
+-- Laws of `low`, `any` and `count`: `low` is the least index that passes, `any` says whether there is one, `count` grows with the
+-- test; and the pigeonhole principle.
+use mathlib.Core.Path.{_≡_, refl, sym, ap, ap₂, _∙_}
+use mathlib.Core.Logic.{_⊎_, inl, inr, ⊎-elim}
+use mathlib.Core.Bool.{Bool, true, false, _||_, cond}
+use Prim.Native.Nat.{ℕ, zero, suc, _≤_, _<_}
+use native.Mathlib.Omega.{arith}
+use lib.Dec.{eqb, ltb}
+use borrow.Author.Tests.{ltb-true, ltb-false, eq-eqb, ne-eqb}
+use Rattle.mondschein.specs.Network.{low, any, count}
+use Rattle.mondschein.proofs.Logic.{which, clash, trichotomy, less?, same?}
+
+-- k is that index
+pub record IsLow (p : ℕ → Bool) (n k : ℕ) : Type 0 where
+  pub le : k ≤ n
+  pub before : (j : ℕ) → j < k → p j ≡ false
+  pub hit : k < n → p k ≡ true
+
+shift : (p : ℕ → Bool) (n k : ℕ) → p zero ≡ false → IsLow (λ j. p (suc j)) n k → IsLow p (suc n) (suc k)
+shift p n k e h = record { le = omega arith; before = before′; hit = λ l. h .hit (omega arith) }
+  where
+    before′ : (j : ℕ) → j < suc k → p j ≡ false
+    before′ zero l = e
+    before′ (suc j) l = h .before j (omega arith)
+
+pub low-is : (p : ℕ → Bool) (n : ℕ) → IsLow p n (low p n)
+unfolding low
+low-is p zero = record { le = omega arith; before = λ j h. absurd (omega arith); hit = λ h. absurd (omega arith) }
+low-is p (suc n) = go (p zero) refl (low-is (λ k. p (suc k)) n)
+  where
+    go : (b : Bool) → p zero ≡ b → IsLow (λ k. p (suc k)) n (low (λ k. p (suc k)) n) → IsLow p (suc n) (cond b zero (suc (low (λ k. p (suc k)) n)))
+    go true e h = record { le = omega arith; before = λ j l. absurd (omega arith); hit = λ l. e }
+    go false e h = shift p n _ e h
+
+-- nothing else is
+pub low-unique : (p : ℕ → Bool) (n j k : ℕ) → IsLow p n j → IsLow p n k → j ≡ k
+low-unique p n j k g h = go (trichotomy j k)
+  where
+    go : (j < k) ⊎ ((k < j) ⊎ (j ≡ k)) → j ≡ k
+    go (inl l) = clash (g .hit (omega (arith, h .le))) (h .before j l)
+    go (inr (inl l)) = clash (h .hit (omega (arith, g .le))) (g .before k l)
+    go (inr (inr e)) = e
+
+pub low-eq : (p : ℕ → Bool) (n k : ℕ) → IsLow p n k → low p n ≡ k
+low-eq p n k h = low-unique p n _ k (low-is p n) h
+
+pub low-ext : (p q : ℕ → Bool) (n : ℕ) → ((k : ℕ) → k < n → p k ≡ q k) → low p n ≡ low q n
+low-ext p q n e =
+    low-eq p n (low q n)
+    record {
+      le = low-is q n .le;
+      before = λ j l. e j (omega (arith, low-is q n .le)) ∙ low-is q n .before j l;
+      hit = λ l. e _ l ∙ low-is q n .hit l;
+    }
+
+-- `any`
+pub any-true : (p : ℕ → Bool) (n : ℕ) → any p n ≡ true → (k : ℕ) × (k < n) × (p k ≡ true)
+unfolding any
+any-true p n e = let l : low p n < n = ltb-true _ _ e in (low p n, l, low-is p n .hit l)
+
+pub any-false : (p : ℕ → Bool) (n : ℕ) → any p n ≡ false → (k : ℕ) → k < n → p k ≡ false
+unfolding any
+any-false p n e k l = low-is p n .before k (omega (arith, ltb-false (low p n) n e))
+
+pub true-any : (p : ℕ → Bool) (n k : ℕ) → k < n → p k ≡ true → any p n ≡ true
+true-any p n k l e = ⊎-elim (λ t. t) (λ f. clash e (any-false p n f k l)) (which (any p n))
+
+pub false-any : (p : ℕ → Bool) (n : ℕ) → ((k : ℕ) → k < n → p k ≡ false) → any p n ≡ false
+false-any p n h = ⊎-elim (λ t. let w : (k : ℕ) × (k < n) × (p k ≡ true) = any-true p n t in clash (w .2) (h (w .0) (w .1))) (λ f. f) (which (any p n))
+
+pub low-found : (p : ℕ → Bool) (n k : ℕ) → k < n → p k ≡ true → (low p n < n) × (p (low p n) ≡ true)
+low-found p n k l e =
+    let m : low p n < n = ⊎-elim (λ h. clash e (low-is p n .before k h)) (λ (h : low p n ≤ k). omega arith) (less? k (low p n)) in
+    (m, low-is p n .hit m)
+
+-- for a loop that looks for the first hit: it stopped at k, or came to n
+pub low-stop : (p : ℕ → Bool) (n k : ℕ) → ((j : ℕ) → j < k → p j ≡ false) → k < n → p k ≡ true → low p n ≡ k
+low-stop p n k b l t = low-eq p n k (record { le = omega arith; before = b; hit = λ _. t })
+
+pub low-none : (p : ℕ → Bool) (n : ℕ) → ((j : ℕ) → j < n → p j ≡ false) → low p n ≡ n
+low-none p n b = low-eq p n n (record { le = omega arith; before = b; hit = λ l. absurd (omega arith) })
+
+-- one index more
+pub any-suc : (p : ℕ → Bool) (n : ℕ) → any p (suc n) ≡ (any p n || p n)
+any-suc p n = ⊎-elim hit miss (which (any p n))
+  where
+    hit : any p n ≡ true → any p (suc n) ≡ (any p n || p n)
+    hit t = let w = any-true p n t in true-any p (suc n) (w .0) (omega (arith, w .1)) (w .2) ∙ sym (ap (λ (b : Bool). b || p n) t)
+
+    miss : any p n ≡ false → any p (suc n) ≡ (any p n || p n)
+    miss f = ⊎-elim (λ t. true-any p (suc n) n (omega arith) t ∙ sym (ap₂ _||_ f t)) (λ g. false-any p (suc n) (λ k l. ⊎-elim (λ m. any-false p n f k m) (λ (m : n ≤ k). ap p (let z : k ≡ n = omega arith in z) ∙ g) (less? k n)) ∙ sym (ap₂ _||_ f g)) (which (p n))
+
+pub any-ext : (p q : ℕ → Bool) (n : ℕ) → ((k : ℕ) → k < n → p k ≡ q k) → any p n ≡ any q n
+unfolding any
+any-ext p q n e = ap (λ (k : ℕ). ltb k n) (low-ext p q n e)
+
+-- `count`
+module _ (x y : ℕ) where
+  step-le : (a b : Bool) → (a ≡ true → b ≡ true) → x ≤ y → cond a (suc x) x ≤ cond b (suc y) y
+  step-le true true i l = omega arith
+  step-le true false i l = clash (i refl) refl
+  step-le false true i l = omega arith
+  step-le false false i l = omega arith
+
+  step-lt : (a b : Bool) → (a ≡ true → b ≡ true) → (x < y) ⊎ ((a ≡ false) × (b ≡ true) × (x ≤ y)) → cond a (suc x) x < cond b (suc y) y
+  step-lt true true i (inl l) = omega arith
+  step-lt true true i (inr w) = clash refl (w .0)
+  step-lt true false i l = clash (i refl) refl
+  step-lt false true i (inl l) = omega arith
+  step-lt false true i (inr w) = omega arith
+  step-lt false false i (inl l) = omega arith
+  step-lt false false i (inr w) = clash (w .1) refl
+
+module _ (p q : ℕ → Bool) where
+  pub count-le : (n : ℕ) → ((k : ℕ) → k < n → p k ≡ true → q k ≡ true) → count p n ≤ count q n
+  unfolding count
+  count-le zero i = omega arith
+  count-le (suc n) i = step-le _ _ (p n) (q n) (i n (omega arith)) (count-le n (λ k l. i k (omega arith)))
+
+  -- one index more passes q than p
+  pub count-lt : (n : ℕ) → ((k : ℕ) → k < n → p k ≡ true → q k ≡ true) → (j : ℕ) → j < n → p j ≡ false → q j ≡ true → count p n < count q n
+  unfolding count
+  count-lt zero i j l f t = absurd (omega arith)
+  count-lt (suc n) i j l f t =
+      step-lt _ _ (p n) (q n) (i n (omega arith))
+      (⊎-elim
+      (λ e. inr (ap p (sym e) ∙ f, ap q (sym e) ∙ t, count-le n (λ k m. i k (omega arith))))
+      (λ d. inl (count-lt n (λ k m. i k (omega arith)) j (omega arith) f t))
+      (same? j n))
+
+pub count-bound : (p : ℕ → Bool) (n : ℕ) → count p n ≤ n
+unfolding count
+count-bound p zero = omega arith
+count-bound p (suc n) = go (p n) (count-bound p n)
+  where
+    go : (b : Bool) → count p n ≤ n → cond b (suc (count p n)) (count p n) ≤ suc n
+    go true h = omega arith
+    go false h = omega arith
+
+-- the pigeonhole principle: k different numbers below n
+pub pigeon : (k n : ℕ) (f : ℕ → ℕ) → ((i : ℕ) → i < k → f i < n) → ((i j : ℕ) → i < k → j < k → f i ≡ f j → i ≡ j) → k ≤ n
+pigeon k n f below inj = omega (arith, go k below inj, count-bound (hits f k) n)
+  where
+    hits : (ℕ → ℕ) → ℕ → ℕ → Bool
+    hits f k y = any (λ i. eqb (f i) y) k
+
+    go : (k : ℕ) → ((i : ℕ) → i < k → f i < n) → ((i j : ℕ) → i < k → j < k → f i ≡ f j → i ≡ j) → k ≤ count (hits f k) n
+    go zero below inj = omega arith
+    go (suc k) below inj =
+        omega (
+          arith,
+          go k (λ i l. below i (omega arith)) (λ i j l m. inj i j (omega arith) (omega arith)),
+          count-lt (hits f k) (hits f (suc k)) n
+              (λ y l t. let w = any-true (λ i. eqb (f i) y) k t in true-any (λ i. eqb (f i) y) (suc k) (w .0) (omega (arith, w .1)) (w .2))
+              (f k) (below k (omega arith))
+              (false-any (λ i. eqb (f i) (f k)) k (λ i l. ne-eqb (f i) (f k) (λ q. let z = inj i k (omega arith) (omega arith) q in omega arith)))
+              (true-any (λ i. eqb (f i) (f k)) (suc k) k (omega arith) (eq-eqb (f k) (f k) refl)),
+        )
