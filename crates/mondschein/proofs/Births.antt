@@ -17,7 +17,7 @@ use Rattle.mondschein.specs.Mondschein.{Before, Birth}
 use Rattle.mondschein.proofs.Logic.{clash, less?, trichotomy}
 use Rattle.mondschein.proofs.Search.{IsLow, low-is, low-eq, any-true, any-false, true-any, any-suc, any-ext}
 use Rattle.mondschein.proofs.Lists.{holds-in, in-holds}
-use Rattle.mondschein.proofs.Checks.{Passed, given-passed, passed-given}
+use Rattle.mondschein.proofs.Checks.{Passed, given-passed, passed-given, ear-long}
 
 pub born-at : (es : Ears) (x : ℕ) → born es x ≡ true → (i : ℕ) × (i < length es) × (holds (earAt es i) x ≡ true)
 unfolding born
@@ -98,7 +98,7 @@ module _ (es : Ears) (e : List ℕ) where
   more-length : length more ≡ suc (length es)
   more-length = length-append es (e ∷ []) ∙ add-one (length es)
 
-  old-ear : (i : ℕ) → i < length es → earAt more i ≡ earAt es i
+  pub old-ear : (i : ℕ) → i < length es → earAt more i ≡ earAt es i
   old-ear i l = List·getD-append es (e ∷ []) [] i l
 
   new-ear : earAt more (length es) ≡ e
@@ -153,6 +153,14 @@ module _ (net : Network) (es : Ears) where
 
     pub later-passed : (i : ℕ) → suc i < length es → Passed net (take (suc i) es) false (earAt es (suc i))
     later-passed i l = subst (λ (b : Bool). Passed net (take (suc i) es) b (earAt es (suc i))) (ne-eqb (suc i) 0 (omega arith)) (acc (suc i) l)
+
+    -- an ear has at least two numbers
+    pub ear-two : (i : ℕ) → i < length es → 2 ≤ length (earAt es i)
+    ear-two i l = two (eqb i 0) (acc i l)
+      where
+        two : (b : Bool) → Passed net (take i es) b (earAt es i) → 2 ≤ length (earAt es i)
+        two true p = omega (arith, ear-long net _ _ _ p)
+        two false p = ear-long net _ _ _ p
 
   pub accepted-snoc : (e : List ℕ) (k : ℕ) → Accepted net es → judge net es e ≡ given (k ∷ []) → Accepted net (es ++ (e ∷ []))
   accepted-snoc e k a q i l =

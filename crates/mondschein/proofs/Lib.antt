@@ -4,3 +4,11 @@ pub mod Lists
 pub mod Links
 pub mod Checks
 pub mod Births
+pub mod Order
+pub mod Growth
+pub mod Loading
+pub mod Routes
+pub mod Trees
+pub mod Inner
+pub mod Sound
+pub mod Complete

@@ -127,3 +127,11 @@ link-unique net proper l a b m h =
     (λ u. ⊎-elim (λ v. inl (cc, cc)) (λ v. inr (cc, cc)) (joins-cases net (linkOf net a b) a b h′))
     (λ u. ⊎-elim (λ v. inr (cc, cc)) (λ v. inl (cc, cc)) (joins-cases net (linkOf net a b) a b h′))
     (joins-cases net l a b h))
+
+pub adjacent-below : (net : Network) → Proper net → (a b : ℕ) → Adjacent net a b → (a < net .n) × (b < net .n)
+adjacent-below net proper a b (i, l, j) =
+    let (u, v) = proper .inside i l in
+    ⊎-elim
+    (λ (p, q). (subst (λ (x : ℕ). x < net .n) p u, subst (λ (x : ℕ). x < net .n) q v))
+    (λ (p, q). (subst (λ (x : ℕ). x < net .n) q v, subst (λ (x : ℕ). x < net .n) p u))
+    j
