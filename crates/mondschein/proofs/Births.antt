@@ -162,6 +162,21 @@ module _ (net : Network) (es : Ears) where
         two true p = omega (arith, ear-long net _ _ _ p)
         two false p = ear-long net _ _ _ p
 
+  -- the ear after es passes
+  pub next-passed : (e : List ℕ) (ds : Ears) → Passing net (es ++ (e ∷ ds)) → Passed net es (eqb (length es) 0) e
+  next-passed e ds acc =
+      subst (λ (z : Ears). Passed net z (eqb (length es) 0) e) (take-at es (e ∷ ds) (length es) refl)
+      (subst (Passed net (take (length es) (es ++ (e ∷ ds))) (eqb (length es) 0)) (getD-at es e ds [] (length es) refl)
+      (acc (length es) (omega (arith, length-append es (e ∷ ds)))))
+
+  pub later : {e : List ℕ} → 0 < length es → Passed net es (eqb (length es) 0) e → Passed net es false e
+  later {e} l p = subst (λ (b : Bool). Passed net es b e) (ne-eqb (length es) 0 (omega arith)) p
+
+  pub accepted-prefix : (ds : Ears) → Accepted net (es ++ ds) → Accepted net es
+  accepted-prefix ds a i l =
+      let (k, q) = a i (omega (arith, length-append es ds)) in
+      (k, rw (take-append-le i es ds (omega arith), List·getD-append es ds [] i l) at q)
+
   pub accepted-snoc : (e : List ℕ) (k : ℕ) → Accepted net es → judge net es e ≡ given (k ∷ []) → Accepted net (es ++ (e ∷ []))
   accepted-snoc e k a q i l =
       ⊎-elim

@@ -8,11 +8,11 @@ use Prim.Native.Nat.{ℕ, suc, pred, _≤_, _<_}
 use native.Mathlib.Omega.{arith}
 use lib.Dec.{eqb, ltb, leb}
 use lib.ListN.{length}
-use borrow.Author.Tests.{ltb-false, lt-ltb, le-ltb, leb-false, eqb-true, eqb-false, eq-eqb, ne-eqb, not-true, not-false}
+use borrow.Author.Tests.{ltb-true, ltb-false, lt-ltb, le-ltb, leb-false, eqb-true, eqb-false, eq-eqb, ne-eqb, not-true, not-false}
 use Rattle.mondschein.specs.Network.{low, any, Network, at, Simple, holds, size, joined, linkOf, Ears, born, used, isNew, newCount}
 use Rattle.mondschein.specs.Judge.{Answer, given, refused, check, wrongLength, tooLarge, repeated, notJoined, usedAlready, wrongCycle, unbornEnd, bornBetween, otherNew, otherUnborn, rootEnd, lastEarly, noneUnborn, verdict, closing}
 use Rattle.mondschein.proofs.Logic.{which, clash, trichotomy, and-true, true-and, or-true, or-false, and-false, false-and}
-use Rattle.mondschein.proofs.Search.{low-is, low-none, low-ext, any-true, any-false, any-ext}
+use Rattle.mondschein.proofs.Search.{low-is, low-stop, low-none, low-ext, any-true, any-false, any-ext}
 use Rattle.mondschein.proofs.Links.{link-found}
 
 -- no position below c is bad
@@ -31,6 +31,34 @@ pub check-pass : (num c : ℕ) (bad : ℕ → Bool) (after : Answer) → Clear c
 unfolding check
 check-pass num c bad after h =
     rw (low-none bad c h, le-ltb c c (omega arith))
+
+-- a check with one place
+pub check-fail : (num : ℕ) (bad : ℕ → Bool) (after : Answer) → bad 0 ≡ true → check num 1 bad after ≡ refused num 0
+unfolding check
+check-fail num bad after h = rw (low-stop bad 1 0 (λ j l. absurd (omega arith)) (omega arith) h)
+
+-- a check refuses with its number at one of its places, or leaves the answer to what comes after
+pub check-either : (Q : Answer → Type 0) (num c : ℕ) (bad : ℕ → Bool) (after : Answer) → ((k : ℕ) → k < c → Q (refused num k)) → Q after → Q (check num c bad after)
+unfolding check
+check-either Q num c bad after r q = go (ltb (low bad c) c) refl
+  where
+    go : (b : Bool) → ltb (low bad c) c ≡ b → Q (cond b (refused num (low bad c)) after)
+    go true h = r (low bad c) (ltb-true _ _ h)
+    go false h = q
+
+-- a refusal of a last check tells its first bad place
+pub check-refused : (num c : ℕ) (bad : ℕ → Bool) (vs : List ℕ) (num′ place : ℕ) → check num c bad (given vs) ≡ refused num′ place
+    → (num′ ≡ num) × (place < c) × (bad place ≡ true) × ((k : ℕ) → k < place → bad k ≡ false)
+unfolding check
+check-refused num c bad vs num′ place e = go (ltb (low bad c) c) refl e
+  where
+    go : (b : Bool) → ltb (low bad c) c ≡ b → cond b (refused num (low bad c)) (given vs) ≡ refused num′ place
+        → (num′ ≡ num) × (place < c) × (bad place ≡ true) × ((k : ℕ) → k < place → bad k ≡ false)
+    go true h q =
+        let z : low bad c ≡ place = cc in
+        let l = ltb-true (low bad c) c h in
+        (cc, omega arith, ap bad (sym z) ∙ low-is bad c .hit l, λ k m. low-is bad c .before k (omega arith))
+    go false h q = let z : _≡_ {A = ℕ} 0 1 = cc in absurd (omega arith)
 
 -- every check of an ear is clear
 pub record Passed (net : Network) (es : Ears) (b : Bool) (e : List ℕ) : Type 0 where

@@ -12,3 +12,9 @@ pub mod Trees
 pub mod Inner
 pub mod Sound
 pub mod Complete
+pub mod Rules
+pub mod Counts
+pub mod History
+pub mod Demand1
+pub mod Demand2
+pub mod Demand3

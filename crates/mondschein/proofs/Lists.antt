@@ -2,7 +2,7 @@
 -- `holds` decides `In`.
 use mathlib.Core.Path.{_≡_, refl, sym, ap, _∙_, subst}
 use mathlib.Core.Logic.{_⊎_, inl, inr, ⊎-elim, _≢_}
-use mathlib.Core.Bool.{Bool, true, false}
+use mathlib.Core.Bool.{Bool, true, false, _&&_, _||_}
 use mathlib.Core.List.{List, [], _∷_, _++_, reverse, reverse-cons}
 use Prim.Native.Nat.{ℕ, zero, suc, _-_, _≤_, _<_}
 use native.Mathlib.Omega.{arith}
@@ -10,10 +10,10 @@ use lib.Dec.{eqb}
 use lib.ListN.{length, List·getD-append}
 use lib.ListN as L
 use lib.Seq.{getD-at}
-use borrow.Author.Tests.{eqb-true, eq-eqb}
+use borrow.Author.Tests.{eqb-true, eq-eqb, ne-eqb}
 use Rattle.mondschein.specs.Network.{any, count, at, In, Simple, holds}
-use Rattle.mondschein.proofs.Logic.{which, clash, trichotomy}
-use Rattle.mondschein.proofs.Search.{any-true, true-any, count-lt, count-bound}
+use Rattle.mondschein.proofs.Logic.{which, clash, trichotomy, and-true, or-left, true-or, false-or}
+use Rattle.mondschein.proofs.Search.{any-true, true-any, count-lt, count-bound, count-ext, count-shift, count-or, count-none, count-one}
 
 pub holds-in : (l : List ℕ) (x : ℕ) → holds l x ≡ true → (k : ℕ) × (k < length l) × (at l k ≡ x)
 unfolding holds
@@ -101,3 +101,32 @@ simple-distinct (x ∷ l) d = (
 -- a list of different numbers below n has at most n
 pub simple-length : (n : ℕ) (l : List ℕ) → Simple l → ((x : ℕ) → In l x → x < n) → length l ≤ n
 simple-length n l d b = distinct-length n l (simple-distinct l d) (λ x h. b x (holds-in l x h))
+
+pub holds-head : (y : ℕ) (l : List ℕ) (x : ℕ) → holds (y ∷ l) x ≡ (eqb y x || holds l x)
+holds-head y l x =
+    ⊎-elim
+    (λ t. t ∙ sym (⊎-elim (λ e. or-left _ _ (eq-eqb y x e)) (λ h. true-or (eqb y x) _ h) (holds-cons y l x t)))
+    (λ f.
+    f
+    ∙ sym
+    (false-or _ _
+    (ne-eqb y x (λ e. clash (subst (λ (z : ℕ). holds (y ∷ l) z ≡ true) e (holds-here y l)) f))
+    (⊎-elim (λ t. clash (holds-there y l x t) f) (λ g. g) (which (holds l x)))))
+    (which (holds (y ∷ l) x))
+
+-- counting the numbers of a list that pass a test, by number and by index
+pub count-list : (n : ℕ) (l : List ℕ) (q : ℕ → Bool) → Simple l → ((k : ℕ) → k < length l → at l k < n) → count (λ x. holds l x && q x) n ≡ count (λ k. q (at l k)) (length l)
+count-list n [] q d b = count-none (λ x. holds [] x && q x) n (λ x m. ap (λ (z : Bool). z && q x) (out-holds [] x (λ (k, l, e). omega arith))) ∙ sym (count-none (λ k. q 0) 0 (λ k m. absurd (omega arith)))
+count-list n (y ∷ l) q d b =
+    count-ext _ _ n (λ x m. ap (λ (z : Bool). z && q x) (holds-head y l x) ∙ distribute (eqb y x) (holds l x) (q x))
+    ∙ count-or (λ x. eqb y x && q x) (λ x. holds l x && q x) n
+    (λ x m t. ap (λ (z : Bool). z && q x) (out-holds l x (λ (k, h, e). let z = d 0 (suc k) (omega arith) (omega arith) (eqb-true y x (and-true _ _ t .0) ∙ sym e) in omega arith)))
+    ∙ rw (count-one q y n (b 0 (omega arith)), count-list n l q (λ j k h m e. let z = d (suc j) (suc k) (omega arith) (omega arith) e in omega arith) (λ k m. b (suc k) (omega arith)))
+    (sym (count-shift (λ k. q (at (y ∷ l) k)) (length l)))
+  where
+    distribute : (a b c : Bool) → ((a || b) && c) ≡ (a && c || b && c)
+    distribute true true true = refl
+    distribute true true false = refl
+    distribute true false true = refl
+    distribute true false false = refl
+    distribute false b c = refl

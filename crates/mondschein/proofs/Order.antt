@@ -3,16 +3,17 @@
 use mathlib.Core.Path.{_≡_, refl, sym, ap, _∙_, subst}
 use mathlib.Core.Logic.{_⊎_, inl, inr, ⊎-elim, _≢_}
 use mathlib.Core.Bool.{Bool, true, false, cond}
-use mathlib.Core.List.{List, [], _∷_, _++_, reverse}
+use mathlib.Core.List.{List, [], _∷_, _++_, reverse, append-assoc}
 use Prim.Native.Nat.{ℕ, zero, suc, pred, _+_, _-_, _≤_, _<_}
 use native.Mathlib.Omega.{arith}
 use lib.Dec.{eqb, ltb}
 use lib.ListN.{length, take, drop, length-append, length-take, length-drop, List·getD-append, take-append-drop}
 use lib.ListN as L
-use lib.Seq.{getD-append-add, getD-take, getD-drop}
+use lib.Seq.{getD-append-add, getD-take, getD-drop, take-suc, drop-cons}
 use borrow.Author.Tests.{ltb-true, ltb-false, eqb-true, eqb-false, eq-eqb, ne-eqb}
 use Rattle.mondschein.specs.Network.{low, any, at, In, Simple, holds}
 use Rattle.mondschein.specs.Order.{position, fromA, between, extend}
+use Rattle.mondschein.specs.Routes.{FromA, Inserted}
 use Rattle.mondschein.proofs.Logic.{which, clash, less?}
 use Rattle.mondschein.proofs.Search.{low-is, low-eq}
 use Rattle.mondschein.proofs.Lists.{holds-in, holds-at, holds-by, absent, at-same, at-reverse}
@@ -360,6 +361,39 @@ module _ (o e : List ℕ) (f : Fits o e) where
       let b′ : suc (suc k) < length c = omega (arith, between-length c) in
       let z = g .simple (suc j) (suc k) (omega arith) (omega arith) (sym (between-at c j a′) ∙ q ∙ between-at c k b′) in omega arith)
       (λ k a. let b : suc (suc k) < length c = omega (arith, between-length c) in held o (between-at c k b) (g .inner (suc k) (omega arith) b)))
+
+-- the functions keep the rules
+pub fromA-either : (o e : List ℕ) → (fromA o e ≡ e) ⊎ (fromA o e ≡ reverse e)
+unfolding fromA
+fromA-either o e = go (ltb (position o (at e 0)) (position o (at e (pred (length e)))))
+  where
+    go : (b : Bool) → (cond b e (reverse e) ≡ e) ⊎ (cond b e (reverse e) ≡ reverse e)
+    go true = inl refl
+    go false = inr refl
+
+pub fromA-rule : (o e : List ℕ) → Fits o e → FromA o e (fromA o e)
+fromA-rule o e f =
+    let g = turned-fits o e (fromA o e) f (fromA-turned o e) in
+    let (a, p) = position-at o (at (fromA o e) 0) (g .start) in
+    let (b, q) = position-at o (at (fromA o e) (pred (length (fromA o e)))) (g .end) in
+    record { turned = fromA-either o e; upward = (position o _, position o _, fromA-up o e f, b, p, q) }
+
+pub extend-rule : (o e : List ℕ) → Fits o e → Inserted o e (extend o e)
+extend-rule o e f =
+    let c = fromA o e in
+    let (a, p) = position-at o (at c 0) (turned-fits o e c f (fromA-turned o e) .start) in
+    let m = position o (at c 0) in
+    record {
+      course = c;
+      fromA = fromA-rule o e f;
+      front = take m o;
+      back = drop (suc m) o;
+      old = sym (take-append-drop m o) ∙ ap (λ (l : List ℕ). take m o ++ l) (drop-cons o m 0 a ∙ ap (λ (x : ℕ). x ∷ drop (suc m) o) p);
+      grown =
+          extend-is o e (omega arith)
+          ∙ ap (λ (l : List ℕ). l ++ (between c ++ drop (suc m) o)) (take-suc o m 0 a ∙ ap (λ (x : ℕ). take m o ++ (x ∷ [])) p)
+          ∙ append-assoc (take m o) (at c 0 ∷ []) (between c ++ drop (suc m) o);
+    }
 
 -- a short ear leaves the order
 no-length : (l : List ℕ) → length l ≡ 0 → l ≡ []

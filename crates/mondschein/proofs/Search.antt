@@ -2,8 +2,8 @@
 -- test; and the pigeonhole principle.
 use mathlib.Core.Path.{_≡_, refl, sym, ap, ap₂, _∙_}
 use mathlib.Core.Logic.{_⊎_, inl, inr, ⊎-elim}
-use mathlib.Core.Bool.{Bool, true, false, _||_, cond}
-use Prim.Native.Nat.{ℕ, zero, suc, _≤_, _<_}
+use mathlib.Core.Bool.{Bool, true, false, _&&_, _||_, cond}
+use Prim.Native.Nat.{ℕ, zero, suc, _+_, _≤_, _<_}
 use native.Mathlib.Omega.{arith}
 use lib.Dec.{eqb, ltb}
 use borrow.Author.Tests.{ltb-true, ltb-false, eq-eqb, ne-eqb}
@@ -156,3 +156,58 @@ pigeon k n f below inj = omega (arith, go k below inj, count-bound (hits f k) n)
               (false-any (λ i. eqb (f i) (f k)) k (λ i l. ne-eqb (f i) (f k) (λ q. let z = inj i k (omega arith) (omega arith) q in omega arith)))
               (true-any (λ i. eqb (f i) (f k)) (suc k) k (omega arith) (eq-eqb (f k) (f k) refl)),
         )
+
+pub count-ext : (p q : ℕ → Bool) (n : ℕ) → ((k : ℕ) → k < n → p k ≡ q k) → count p n ≡ count q n
+unfolding count
+count-ext p q zero e = refl
+count-ext p q (suc n) e = rw (e n (omega arith), count-ext p q n (λ k l. e k (omega arith)))
+
+pub count-skip : (p : ℕ → Bool) (n : ℕ) → p n ≡ false → count p (suc n) ≡ count p n
+unfolding count
+count-skip p n f = rw f
+
+-- counting from the other end
+pub count-shift : (p : ℕ → Bool) (n : ℕ) → count p (suc n) ≡ cond (p 0) 1 0 + count (λ k. p (suc k)) n
+unfolding count
+count-shift p zero = omega arith
+count-shift p (suc n) = go (p (suc n)) (count-shift p n)
+  where
+    go : (b : Bool) → count p (suc n) ≡ cond (p 0) 1 0 + count (λ k. p (suc k)) n
+        → cond b (suc (count p (suc n))) (count p (suc n)) ≡ cond (p 0) 1 0 + cond b (suc (count (λ k. p (suc k)) n)) (count (λ k. p (suc k)) n)
+    go true h = omega arith
+    go false h = h
+
+-- two tests that no index passes both
+pub count-or : (p q : ℕ → Bool) (n : ℕ) → ((k : ℕ) → k < n → p k ≡ true → q k ≡ false) → count (λ k. p k || q k) n ≡ count p n + count q n
+unfolding count
+count-or p q zero d = refl
+count-or p q (suc n) d = go (p n) (q n) (d n (omega arith)) (count-or p q n (λ k l. d k (omega arith)))
+  where
+    go : (a b : Bool) → (a ≡ true → b ≡ false) → count (λ k. p k || q k) n ≡ count p n + count q n
+        → cond (a || b) (suc (count (λ k. p k || q k) n)) (count (λ k. p k || q k) n) ≡ cond a (suc (count p n)) (count p n) + cond b (suc (count q n)) (count q n)
+    go true true x h = clash refl (x refl)
+    go true false x h = omega arith
+    go false true x h = omega arith
+    go false false x h = h
+
+pub count-none : (p : ℕ → Bool) (n : ℕ) → ((k : ℕ) → k < n → p k ≡ false) → count p n ≡ 0
+unfolding count
+count-none p zero h = refl
+count-none p (suc n) h = rw (h n (omega arith)) (count-none p n (λ k l. h k (omega arith)))
+
+pub count-all : (p : ℕ → Bool) (n : ℕ) → ((k : ℕ) → k < n → p k ≡ true) → count p n ≡ n
+unfolding count
+count-all p zero h = refl
+count-all p (suc n) h = rw (h n (omega arith)) (ap suc (count-all p n (λ k l. h k (omega arith))))
+
+-- a test of one number alone
+pub count-one : (q : ℕ → Bool) (x n : ℕ) → x < n → count (λ y. eqb x y && q y) n ≡ cond (q x) 1 0
+unfolding count
+count-one q x zero l = absurd (omega arith)
+count-one q x (suc n) l =
+    ⊎-elim
+    (λ (e : x ≡ n).
+    rw (eq-eqb x n e, count-none (λ y. eqb x y && q y) n (λ k m. ap (λ (b : Bool). b && q k) (ne-eqb x k (λ z. omega arith))))
+    (ap (λ (y : ℕ). cond (q y) 1 0) (sym e)))
+    (λ d. rw (ne-eqb x n d) (count-one q x n (omega arith)))
+    (same? x n)

@@ -200,7 +200,7 @@ module _ (net : Network) (proper : Proper net) (es : Ears) (acc : Passing net es
       (subst (λ (a : ℕ). Next (birth es x) a (at (way x) (suc (spot x)))) (st .here)
       (next (birth es x) (spot x) (st .bounds) (⊎-elim (λ e. absurd (f e)) (λ l. l) (st .before))))
 
-  first-up : (x : ℕ) → x ≢ net .root → x ≡ net .first → parent2 net es x ≡ net .root
+  pub first-up : (x : ℕ) → x ≢ net .root → x ≡ net .first → parent2 net es x ≡ net .root
   unfolding parent2
   first-up x d f = rw (ne-eqb x (net .root) d, eq-eqb x (net .first) f)
 
@@ -312,12 +312,19 @@ module _ (net : Network) (proper : Proper net) (es : Ears) (acc : Passing net es
       (which (isNew (eqb i 0) (length e) j))
 
   -- the entry in tree 1 stands just before the switch
-  before : (x : ℕ) → x < net .n → x ≢ net .root → (k : ℕ) × (suc k < length (way x)) × (at (way x) k ≡ parent1 net es x) × (at (way x) (suc k) ≡ x)
+  pub before : (x : ℕ) → x < net .n → x ≢ net .root → (k : ℕ) × (suc k < length (way x)) × (at (way x) k ≡ parent1 net es x) × (at (way x) (suc k) ≡ x)
   unfolding parent1
   before x m d =
       let st = stands x m d in
       let q : suc (pred (spot x)) ≡ spot x = omega (arith, st .after) in
       (pred (spot x), omega (arith, st .inside, st .after), rw (ne-eqb x (net .root) d), at-same (way x) _ _ q ∙ st .here)
+
+  -- and the entry in tree 2 just after it
+  pub after : (x : ℕ) → x < net .n → x ≢ net .root → x ≢ net .first → (k : ℕ) × (suc k < length (way x)) × (at (way x) k ≡ x) × (at (way x) (suc k) ≡ parent2 net es x)
+  unfolding parent2
+  after x m d f =
+      let st = stands x m d in
+      (spot x, ⊎-elim (λ e. absurd (f e)) (λ l. l) (st .before), st .here, rw (ne-eqb x (net .root) d, ne-eqb x (net .first) f))
 
   module _ (p : ℕ → ℕ → ℕ) (e₁ : p 1 ≡ parent1 net es) (e₂ : p 2 ≡ parent2 net es) (e₃ : Third net es (p 3)) where
     third-cases : (x : ℕ) → x < net .n → x ≢ net .root → ((x ≡ net .last) × (p 3 x ≡ net .root)) ⊎ LaterBorn net es x (p 3 x)

@@ -1,0 +1,115 @@
+-- Demand 1 of the machine: each call gives its values, or a refusal of its own, after which the state and the slice are as they were.
+-- Each check is held to the numbers and places of its call.
+use mathlib.Core.Path.{_≡_, refl, ap}
+use mathlib.Core.Logic.{_⊎_, inl, inr, ⊎-elim}
+use mathlib.Core.Bool.{cond}
+use mathlib.Core.List.{List, [], _∷_, _++_}
+use Prim.Native.Nat.{ℕ, pred, _<_}
+use native.Mathlib.Omega.{arith}
+use lib.ListN.{length}
+use Rattle.mondschein.specs.Network.{Network, In, Ears, used}
+use Rattle.mondschein.specs.Judge.{Answer, given, refused, check, loading, verdict, judge, closing}
+use Rattle.mondschein.specs.Machine.{State, empty, opened, closed, Call, load, ear, close, clear, granted, Outcome, settle, step, parentCall, walkCall, machine}
+use Rattle.mondschein.specs.Demands.{values, Refusal, Demand1}
+use Rattle.mondschein.proofs.Checks.{check-either}
+
+-- an answer of the call c
+abbrev Fair : Call → Answer → Type 0
+Fair c a = ((vs : List ℕ) × (a ≡ given vs) × (length vs ≡ values c)) ⊎ ((num place : ℕ) × (a ≡ refused num place) × Refusal c num place)
+
+load-fair : (net : Network) → Fair (load net) (loading net)
+unfolding loading
+load-fair net =
+    check-either Q 1 _ _ _ (λ k l. inr (1, k, refl, inl ((0, omega arith, refl), omega arith)))
+    (check-either Q 2 _ _ _ (λ k l. inr (2, k, refl, inr ((0, omega arith, refl), l)))
+    (check-either Q 3 _ _ _ (λ k l. inr (3, k, refl, inr ((1, omega arith, refl), l)))
+    (check-either Q 4 _ _ _ (λ k l. inr (4, k, refl, inr ((2, omega arith, refl), l)))
+    (check-either Q 5 _ _ _ (λ k l. inr (5, k, refl, inl ((1, omega arith, refl), omega arith)))
+    (check-either Q 6 _ _ _ (λ k l. inr (6, k, refl, inl ((2, omega arith, refl), omega arith)))
+    (inl (_, refl, refl)))))))
+  where
+    Q : Answer → Type 0
+    Q = Fair (load net)
+
+ear-fair : (net : Network) (es : Ears) (e : List ℕ) → Fair (ear e) (judge net es e)
+unfolding judge verdict
+ear-fair net es e =
+    check-either Q 7 _ _ _ (λ k l. inr (7, k, refl, inl ((0, omega arith, refl), omega arith)))
+    (check-either Q 8 _ _ _ (λ k l. inr (8, k, refl, inr ((0, omega arith, refl), l)))
+    (check-either Q 9 _ _ _ (λ k l. inr (9, k, refl, inr ((1, omega arith, refl), l)))
+    (check-either Q 10 _ _ _ (λ k l. inr (10, k, refl, inr ((2, omega arith, refl), omega arith)))
+    (check-either Q 11 _ _ _ (λ k l. inr (11, k, refl, inr ((3, omega arith, refl), omega arith)))
+    (check-either Q 12 _ _ _ (λ k l. inr (12, k, refl, inl ((1, omega arith, refl), omega arith)))
+    (check-either Q 13 _ _ _ (λ k l. inr (13, k, refl, inr ((4, omega arith, refl), l)))
+    (check-either Q 14 _ _ _ (λ k l. inr (14, k, refl, inr ((5, omega arith, refl), l)))
+    (check-either Q 15 _ _ _ (λ k l. inr (15, k, refl, inr ((6, omega arith, refl), l)))
+    (check-either Q 16 _ _ _ (λ k l. inr (16, k, refl, inr ((7, omega arith, refl), l)))
+    (inl (_, refl, refl)))))))))))
+  where
+    Q : Answer → Type 0
+    Q = Fair (ear e)
+
+close-fair : (net : Network) (es : Ears) → Fair close (closing net (used net es))
+unfolding closing
+close-fair net es = check-either (Fair close) 23 _ _ _ (λ k l. inr (23, k, refl, inr refl)) (inl ([], refl, refl))
+
+-- a refusal leaves the state
+abbrev Kept : Call → State → Outcome State → Type 0
+Kept c s o = ((vs : List ℕ) × (o .answer ≡ given vs) × (length vs ≡ values c)) ⊎ ((num place : ℕ) × (o .answer ≡ refused num place) × Refusal c num place × (o .after ≡ s))
+
+kept : (c : Call) (old next : State) (a : Answer) → Fair c a → Kept c old (settle old next a)
+unfolding settle granted
+kept c old next a f = ⊎-elim inl (λ (num, place, e, r). inr (num, place, e, r, ap (λ (b : Answer). cond (granted b) next old) e)) f
+
+calls : (s : State) (c : Call) → Kept c s (step s c)
+unfolding step
+calls empty (load net) = kept (load net) _ _ _ (load-fair net)
+calls (opened net es) (load net′) = kept (load net′) _ _ _ (inr (20, 0, refl, inl ((3, omega arith, refl), refl)))
+calls (closed net es) (load net′) = kept (load net′) _ _ _ (inr (20, 0, refl, inl ((3, omega arith, refl), refl)))
+calls empty (ear e) = kept (ear e) _ _ _ (inr (19, 0, refl, inl ((2, omega arith, refl), refl)))
+calls (opened net es) (ear e) = kept (ear e) _ _ _ (ear-fair net es e)
+calls (closed net es) (ear e) = kept (ear e) _ _ _ (inr (22, 0, refl, inl ((3, omega arith, refl), refl)))
+calls empty close = kept close _ _ _ (inr (19, 0, refl, inl ((0, omega arith, refl), refl)))
+calls (opened net es) close = kept close _ _ _ (close-fair net es)
+calls (closed net es) close = kept close _ _ _ (inr (22, 0, refl, inl ((1, omega arith, refl), refl)))
+calls empty clear = kept clear _ _ _ (inl ([], refl, refl))
+calls (opened net es) clear = kept clear _ _ _ (inl ([], refl, refl))
+calls (closed net es) clear = kept clear _ _ _ (inl ([], refl, refl))
+
+-- an answer of one value, or a refusal with one of the numbers
+abbrev One : List ℕ → Answer → Type 0
+One nums a = ((x : ℕ) × (a ≡ given (x ∷ []))) ⊎ ((num : ℕ) × (a ≡ refused num 0) × In nums num)
+
+refused-at : (nums : List ℕ) (num k : ℕ) → k < 1 → In nums num → One nums (refused num k)
+refused-at nums num k l i = inr (num, ap (refused num) (let z : k ≡ 0 = omega arith in z), i)
+
+abbrev parentNumbers : List ℕ
+parentNumbers = 17 ∷ 19 ∷ 21 ∷ []
+
+abbrev walkNumbers : List ℕ
+walkNumbers = 17 ∷ 18 ∷ 19 ∷ 21 ∷ []
+
+parents : (s : State) (v t : ℕ) → One parentNumbers (parentCall s v t)
+unfolding parentCall
+parents empty v t = inr (19, refl, (1, omega arith, refl))
+parents (opened net es) v t = inr (21, refl, (2, omega arith, refl))
+parents (closed net es) v t = check-either (One parentNumbers) 17 _ _ _ (λ k l. refused-at parentNumbers 17 k l (0, omega arith, refl)) (inl (_, refl))
+
+-- a refusal leaves the slice
+untouched : (out next : List ℕ) (a : Answer) → One walkNumbers a
+    → ((c : ℕ) × (settle out next a .answer ≡ given (c ∷ []))) ⊎ ((num : ℕ) × (settle out next a ≡ record { answer = refused num 0; after = out }) × In walkNumbers num)
+unfolding settle granted
+untouched out next a f = ⊎-elim inl (λ (num, e, i). inr (num, ap (settle out next) e, i)) f
+
+walks : (s : State) (v t : ℕ) (out : List ℕ)
+    → ((c : ℕ) × (walkCall s v t out .answer ≡ given (c ∷ []))) ⊎ ((num : ℕ) × (walkCall s v t out ≡ record { answer = refused num 0; after = out }) × In walkNumbers num)
+unfolding walkCall
+walks empty v t out = untouched out out (refused 19 0) (inr (19, refl, (2, omega arith, refl)))
+walks (opened net es) v t out = untouched out out (refused 21 0) (inr (21, refl, (3, omega arith, refl)))
+walks (closed net es) v t out =
+    untouched out _ _
+    (check-either (One walkNumbers) 17 _ _ _ (λ k l. refused-at walkNumbers 17 k l (0, omega arith, refl))
+    (check-either (One walkNumbers) 18 _ _ _ (λ k l. refused-at walkNumbers 18 k l (1, omega arith, refl)) (inl (_, refl))))
+
+pub demand1 : Demand1 machine
+demand1 = record { calls = calls; parents = parents; walks = walks }
