@@ -17,7 +17,7 @@ use Rattle.mondschein.specs.Mondschein.{Before, Birth}
 use Rattle.mondschein.proofs.Logic.{clash, less?, trichotomy}
 use Rattle.mondschein.proofs.Search.{IsLow, low-is, low-eq, any-true, any-false, true-any, any-suc, any-ext}
 use Rattle.mondschein.proofs.Lists.{holds-in, in-holds}
-use Rattle.mondschein.proofs.Checks.{Passed, given-passed, passed-given, ear-long}
+use Rattle.mondschein.proofs.Checks.{Passed, given-passed, passed-given}
 
 pub born-at : (es : Ears) (x : ℕ) → born es x ≡ true → (i : ℕ) × (i < length es) × (holds (earAt es i) x ≡ true)
 unfolding born
@@ -159,8 +159,8 @@ module _ (net : Network) (es : Ears) where
     ear-two i l = two (eqb i 0) (acc i l)
       where
         two : (b : Bool) → Passed net (take i es) b (earAt es i) → 2 ≤ length (earAt es i)
-        two true p = omega (arith, ear-long net _ _ _ p)
-        two false p = ear-long net _ _ _ p
+        two true p = omega (arith, p .long)
+        two false p = p .long
 
   -- the ear after es passes
   pub next-passed : (e : List ℕ) (ds : Ears) → Passing net (es ++ (e ∷ ds)) → Passed net es (eqb (length es) 0) e

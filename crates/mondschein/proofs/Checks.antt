@@ -8,11 +8,11 @@ use Prim.Native.Nat.{ℕ, suc, pred, _≤_, _<_}
 use native.Mathlib.Omega.{arith}
 use lib.Dec.{eqb, ltb, leb}
 use lib.ListN.{length}
-use borrow.Author.Tests.{ltb-true, ltb-false, lt-ltb, le-ltb, leb-false, eqb-true, eqb-false, eq-eqb, ne-eqb, not-true, not-false}
+use borrow.Author.Tests.{ltb-true, ltb-false, lt-ltb, le-ltb, leb-false, lt-leb, eqb-true, eqb-false, eq-eqb, ne-eqb, not-true, not-false}
 use Rattle.mondschein.specs.Network.{low, any, Network, at, Simple, holds, size, joined, linkOf, Ears, born, used, isNew, newCount}
 use Rattle.mondschein.specs.Judge.{Answer, given, refused, check, wrongLength, tooLarge, repeated, notJoined, usedAlready, wrongCycle, unbornEnd, bornBetween, otherNew, otherUnborn, rootEnd, lastEarly, noneUnborn, verdict, closing}
-use Rattle.mondschein.proofs.Logic.{which, clash, trichotomy, and-true, true-and, or-true, or-false, and-false, false-and}
-use Rattle.mondschein.proofs.Search.{low-is, low-stop, low-none, low-ext, any-true, any-false, any-ext}
+use Rattle.mondschein.proofs.Logic.{which, clash, less?, trichotomy, and-true, true-and, or-false, and-false, false-and, false-or}
+use Rattle.mondschein.proofs.Search.{low-is, low-stop, low-none, low-ext, any-true, any-false, true-any, false-any, any-ext}
 use Rattle.mondschein.proofs.Links.{link-found}
 
 -- no position below c is bad
@@ -60,22 +60,48 @@ check-refused num c bad vs num′ place e = go (ltb (low bad c) c) refl e
         (cc, omega arith, ap bad (sym z) ∙ low-is bad c .hit l, λ k m. low-is bad c .before k (omega arith))
     go false h q = let z : _≡_ {A = ℕ} 0 1 = cc in absurd (omega arith)
 
--- every check of an ear is clear
+-- what the checks say of an ear that passes them all, one fact or two for each
 pub record Passed (net : Network) (es : Ears) (b : Bool) (e : List ℕ) : Type 0 where
-  pub clear7 : Clear 1 (wrongLength net (born es) (used net es) b e)
-  pub clear8 : Clear (length e) (tooLarge net (born es) (used net es) b e)
-  pub clear9 : Clear (length e) (repeated net (born es) (used net es) b e)
-  pub clear10 : Clear (pred (length e)) (notJoined net (born es) (used net es) b e)
-  pub clear11 : Clear (pred (length e)) (usedAlready net (born es) (used net es) b e)
-  pub clear12 : Clear 1 (wrongCycle net (born es) (used net es) b e)
-  pub clear13 : Clear (length e) (unbornEnd net (born es) (used net es) b e)
-  pub clear14 : Clear (length e) (bornBetween net (born es) (used net es) b e)
-  pub clear15 : Clear (length e) (lastEarly net (born es) (used net es) b e)
-  pub clear16 : Clear (length e) (noneUnborn net (born es) (used net es) b e)
+  pub long : cond b 3 2 ≤ length e
+  pub fits : length e ≤ net .n
+  pub below : (k : ℕ) → k < length e → at e k < net .n
+  pub simple : Simple e
+  pub linked : (k : ℕ) → suc k < length e → joined net (at e k) (at e (suc k)) ≡ true
+  pub unused : (k : ℕ) → suc k < length e → used net es (linkOf net (at e k) (at e (suc k))) ≡ false
+  pub cycle : b ≡ true → (at e 0 ≡ net .root) × (at e (pred (length e)) ≡ net .first)
+  pub ends : b ≡ false → (born es (at e 0) ≡ true) × (born es (at e (pred (length e))) ≡ true)
+  pub inner : b ≡ false → (k : ℕ) → 0 < k → suc k < length e → born es (at e k) ≡ false
+  pub alone : (k : ℕ) → k < length e → isNew b (length e) k ≡ true → at e k ≡ net .last
+      → ((j : ℕ) → j < length e → isNew b (length e) j ≡ true → j ≡ k)
+      × ((x : ℕ) → x < net .n → x ≢ net .last → (born es x || holds e x) ≡ true)
+      × (at e 0 ≢ net .root) × (at e (pred (length e)) ≢ net .root)
+  pub neighbour : (k : ℕ) → k < length e → isNew b (length e) k ≡ true → at e k ≢ net .last
+      → (x : ℕ) × (x < net .n) × (joined net (at e k) x ≡ true) × (born es x ≡ false) × (holds e x ≡ false)
+
+-- the new indices of a later ear are those between its ends
+pub new-between : (c k : ℕ) → isNew false c k ≡ true → (0 < k) × (suc k < c)
+unfolding isNew
+new-between c k h = let (a, b) = and-true (ltb 0 k) _ h in (ltb-true _ _ a, ltb-true _ _ b)
+
+pub between-new : (c k : ℕ) → 0 < k → suc k < c → isNew false c k ≡ true
+unfolding isNew
+between-new c k l m = true-and _ _ (lt-ltb 0 k l) (lt-ltb (suc k) c m)
+
+pub end-new : (c k : ℕ) → k < c → isNew false c k ≡ false → (k ≡ 0) ⊎ (k ≡ pred c)
+end-new c k l f =
+    ⊎-elim
+    (λ (m : 0 < k). ⊎-elim (λ m′. clash (between-new c k m m′) f) (λ (m′ : c ≤ suc k). inr (omega arith)) (less? (suc k) c))
+    (λ m. inl (omega arith))
+    (less? 0 k)
+
+pub new-end : (c k : ℕ) → (k ≡ 0) ⊎ (k ≡ pred c) → isNew false c k ≡ false
+unfolding isNew
+new-end c k (inl z) = false-and (ltb 0 k) _ (λ t. absurd (omega (arith, ltb-true 0 k t)))
+new-end c k (inr z) = false-and (ltb 0 k) _ (λ t. le-ltb (suc k) c (omega arith))
 
 module _ (net : Network) (es : Ears) (b : Bool) (e : List ℕ) where
   pub given-passed : (vs : List ℕ) → verdict net (born es) (used net es) b e ≡ given vs → Passed net es b e
-  unfolding verdict
+  unfolding verdict wrongLength tooLarge repeated notJoined usedAlready wrongCycle unbornEnd bornBetween lastEarly otherNew otherUnborn rootEnd noneUnborn
   given-passed vs q =
       let (c7, q7) = check-given _ _ _ _ vs q in
       let (c8, q8) = check-given _ _ _ _ vs q7 in
@@ -87,98 +113,88 @@ module _ (net : Network) (es : Ears) (b : Bool) (e : List ℕ) where
       let (c14, q14) = check-given _ _ _ _ vs q13 in
       let (c15, q15) = check-given _ _ _ _ vs q14 in
       let (c16, q16) = check-given _ _ _ _ vs q15 in
-      record { clear7 = c7; clear8 = c8; clear9 = c9; clear10 = c10; clear11 = c11; clear12 = c12; clear13 = c13; clear14 = c14; clear15 = c15; clear16 = c16 }
+      let (len, fit) = or-false (ltb (length e) (cond b 3 2)) _ (c7 0 (omega arith)) in
+      let long : cond b 3 2 ≤ length e = ltb-false _ _ len in
+      let two : 2 ≤ length e = enough b long in
+      record {
+        long = long;
+        fits = ltb-false _ _ fit;
+        below = λ k l. leb-false (net .n) (at e k) (c8 k l);
+        simple = λ j k l m h.
+            ⊎-elim
+            (λ w. absurd (eqb-false (at e j) (at e k) (any-false _ k (c9 k m) j w) h))
+            (⊎-elim (λ w. absurd (eqb-false (at e k) (at e j) (any-false _ j (c9 j l) k w) (sym h))) (λ w. w))
+            (trichotomy j k);
+        linked = λ k l. not-false _ (c10 k (omega arith));
+        unused = λ k l. c11 k (omega arith);
+        cycle = λ z. let (x, y) = and-true _ _ (not-false _ (and-false b _ (c12 0 (omega arith)) z)) in (eqb-true _ _ x, eqb-true _ _ y);
+        ends = λ z. (old c13 z 0 (omega arith) (inl refl), old c13 z (pred (length e)) (omega arith) (inr refl));
+        inner = λ z k l m. and-false _ _ (and-false (not b) _ (c14 k (omega arith)) (ap not z)) (ap (λ (f : Bool). isNew f (length e) k) z ∙ between-new (length e) k l m);
+        alone = λ k l f h.
+            let c = and-false _ _ (and-false _ _ (c15 k l) f) (eq-eqb (at e k) (net .last) h) in
+            let (c1, c′) = or-false (otherNew net (born es) (used net es) b e k) (otherUnborn net (born es) (used net es) b e || rootEnd net (born es) (used net es) b e) c in
+            let (c2, c″) = or-false (otherUnborn net (born es) (used net es) b e) (rootEnd net (born es) (used net es) b e) c′ in
+            let (c3, c4) = or-false _ _ c″ in (
+              λ j m g. eqb-true j k (not-false _ (and-false _ _ (any-false (λ i. isNew b (length e) i && not (eqb i k)) (length e) c1 j m) g)),
+              λ x m d. not-false _ (and-false _ _ (any-false (λ y. not (eqb y (net .last)) && not (born es y || holds e y)) (net .n) c2 x m) (ap not (ne-eqb x (net .last) d))),
+              eqb-false _ _ c3,
+              eqb-false _ _ c4,
+            );
+        neighbour = λ k l f d.
+            let c = and-false _ _ (and-false _ _ (c16 k l) f) (ap not (ne-eqb (at e k) (net .last) d)) in
+            let (x, m, t) = any-true _ (net .n) (not-false _ c) in
+            let (j, u) = and-true _ _ t in
+            let (g, h) = or-false _ _ (not-true _ u) in
+            (x, m, j, g, h);
+      }
+    where
+      enough : (b : Bool) → cond b 3 2 ≤ length e → 2 ≤ length e
+      enough true l = omega arith
+      enough false l = l
+
+      old : Clear (length e) (unbornEnd net (born es) (used net es) b e) → b ≡ false → (k : ℕ) → k < length e → (k ≡ 0) ⊎ (k ≡ pred (length e)) → born es (at e k) ≡ true
+      old c z k l w =
+          not-false _
+          (and-false _ _ (and-false (not b) _ (c k l) (ap not z)) (ap not (ap (λ (f : Bool). isNew f (length e) k) z ∙ new-end (length e) k w)))
 
   pub passed-given : Passed net es b e → verdict net (born es) (used net es) b e ≡ given (newCount b (length e) ∷ [])
-  unfolding verdict
+  unfolding verdict wrongLength tooLarge repeated notJoined usedAlready wrongCycle unbornEnd bornBetween lastEarly otherNew otherUnborn rootEnd noneUnborn
   passed-given p =
-      check-pass _ _ _ _ (p .clear7)
-      ∙ check-pass _ _ _ _ (p .clear8)
-      ∙ check-pass _ _ _ _ (p .clear9)
-      ∙ check-pass _ _ _ _ (p .clear10)
-      ∙ check-pass _ _ _ _ (p .clear11)
-      ∙ check-pass _ _ _ _ (p .clear12)
-      ∙ check-pass _ _ _ _ (p .clear13)
-      ∙ check-pass _ _ _ _ (p .clear14)
-      ∙ check-pass _ _ _ _ (p .clear15)
-      ∙ check-pass _ _ _ _ (p .clear16)
+      check-pass _ _ _ _ (λ k l. false-or _ _ (le-ltb _ _ (p .long)) (le-ltb _ _ (p .fits)))
+      ∙ check-pass _ _ _ _ (λ k l. lt-leb _ _ (p .below k l))
+      ∙ check-pass _ _ _ _ (λ k l. false-any (λ j. eqb (at e j) (at e k)) k (λ j m. ne-eqb _ _ (λ q. let z = p .simple j k (omega arith) l q in omega arith)))
+      ∙ check-pass _ _ _ _ (λ k l. ap not (p .linked k (omega arith)))
+      ∙ check-pass _ _ _ _ (λ k l. p .unused k (omega arith))
+      ∙ check-pass _ _ _ _ (λ k l. false-and b _ (λ z. ap not (true-and _ _ (eq-eqb _ _ (p .cycle z .0)) (eq-eqb _ _ (p .cycle z .1)))))
+      ∙ check-pass _ _ _ _ (λ k l. false-and (not b) _ (λ z. false-and (not (isNew b (length e) k)) _ (λ f. ap not (old (not-true b z) k l (not-true _ f)))))
+      ∙ check-pass _ _ _ _ (λ k l. false-and (not b) _ (λ z. false-and (isNew b (length e) k) _ (λ t. young (not-true b z) k t)))
+      ∙ check-pass _ _ _ _ (λ k l. false-and (isNew b (length e) k) _ (λ f. false-and (eqb (at e k) (net .last)) _ (λ q. last-free k l f (eqb-true _ _ q))))
+      ∙ check-pass _ _ _ _ (λ k l. false-and (isNew b (length e) k) _ (λ f. false-and (not (eqb (at e k) (net .last))) _ (λ d. ap not (found k l f (eqb-false _ _ (not-true _ d))))))
+    where
+      old : b ≡ false → (k : ℕ) → k < length e → isNew b (length e) k ≡ false → born es (at e k) ≡ true
+      old z k l f =
+          ⊎-elim
+          (λ (w : k ≡ 0). ap (λ (j : ℕ). born es (at e j)) w ∙ p .ends z .0)
+          (λ (w : k ≡ pred (length e)). ap (λ (j : ℕ). born es (at e j)) w ∙ p .ends z .1)
+          (end-new (length e) k l (ap (λ (c : Bool). isNew c (length e) k) (sym z) ∙ f))
 
--- what a passed ear is
-module _ (net : Network) (es : Ears) (b : Bool) (e : List ℕ) (p : Passed net es b e) where
-  pub ear-long : cond b 3 2 ≤ length e
-  unfolding wrongLength
-  ear-long = ltb-false (length e) (cond b 3 2) (or-false _ _ (p .clear7 0 (omega arith)) .0)
+      young : b ≡ false → (k : ℕ) → isNew b (length e) k ≡ true → born es (at e k) ≡ false
+      young z k t = let (l, m) = new-between (length e) k (ap (λ (c : Bool). isNew c (length e) k) (sym z) ∙ t) in p .inner z k l m
 
-  pub ear-below : (k : ℕ) → k < length e → at e k < net .n
-  unfolding tooLarge
-  ear-below k l = leb-false (net .n) (at e k) (p .clear8 k l)
+      last-free : (k : ℕ) → k < length e → isNew b (length e) k ≡ true → at e k ≡ net .last
+          → (otherNew net (born es) (used net es) b e k || (otherUnborn net (born es) (used net es) b e || rootEnd net (born es) (used net es) b e)) ≡ false
+      last-free k l f q =
+          let (only, all, r, r′) = p .alone k l f q in
+          false-or _ _
+          (false-any (λ j. isNew b (length e) j && not (eqb j k)) (length e) (λ j m. false-and (isNew b (length e) j) _ (λ g. ap not (eq-eqb j k (only j m g)))))
+          (false-or _ _
+          (false-any (λ x. not (eqb x (net .last)) && not (born es x || holds e x)) (net .n) (λ x m. false-and (not (eqb x (net .last))) _ (λ d. ap not (all x m (eqb-false _ _ (not-true _ d))))))
+          (false-or _ _ (ne-eqb _ _ r) (ne-eqb _ _ r′)))
 
-  pub ear-simple : Simple e
-  unfolding repeated
-  ear-simple j k l m q =
-      ⊎-elim
-      (λ h. absurd (eqb-false (at e j) (at e k) (any-false _ k (p .clear9 k m) j h) q))
-      (⊎-elim (λ h. absurd (eqb-false (at e k) (at e j) (any-false _ j (p .clear9 j l) k h) (sym q))) (λ h. h))
-      (trichotomy j k)
-
-  pub ear-linked : (k : ℕ) → suc k < length e → joined net (at e k) (at e (suc k)) ≡ true
-  unfolding notJoined
-  ear-linked k l = not-false _ (p .clear10 k (omega arith))
-
-  pub ear-unused : (k : ℕ) → suc k < length e → used net es (linkOf net (at e k) (at e (suc k))) ≡ false
-  unfolding usedAlready
-  ear-unused k l = p .clear11 k (omega arith)
-
-  -- an unborn neighbour
-  pub ear-neighbour : (k : ℕ) → k < length e → isNew b (length e) k ≡ true → at e k ≢ net .last
-      → (x : ℕ) × (x < net .n) × (joined net (at e k) x ≡ true) × (born es x ≡ false) × (holds e x ≡ false)
-  unfolding noneUnborn
-  ear-neighbour k l f d =
-      let c = and-false _ _ (and-false _ _ (p .clear16 k l) f) (ap not (ne-eqb (at e k) (net .last) d)) in
-      let (x, m, t) = any-true _ (net .n) (not-false _ c) in
-      let (j, u) = and-true _ _ t in
-      let (g, h) = or-false _ _ (not-true _ u) in
-      (x, m, j, g, h)
-
-  -- the last switch is alone
-  pub ear-alone : (k : ℕ) → k < length e → isNew b (length e) k ≡ true → at e k ≡ net .last
-      → ((j : ℕ) → j < length e → isNew b (length e) j ≡ true → j ≡ k)
-      × ((x : ℕ) → x < net .n → x ≢ net .last → (born es x || holds e x) ≡ true)
-      × (at e 0 ≢ net .root) × (at e (pred (length e)) ≢ net .root)
-  unfolding lastEarly otherNew otherUnborn rootEnd
-  ear-alone k l f q =
-      let c = and-false _ _ (and-false _ _ (p .clear15 k l) f) (eq-eqb (at e k) (net .last) q) in
-      let (c1, c′) = or-false (otherNew net (born es) (used net es) b e k) (otherUnborn net (born es) (used net es) b e || rootEnd net (born es) (used net es) b e) c in
-      let (c2, c″) = or-false (otherUnborn net (born es) (used net es) b e) (rootEnd net (born es) (used net es) b e) c′ in
-      let (c3, c4) = or-false _ _ c″ in (
-        λ j m g. eqb-true j k (not-false _ (and-false _ _ (any-false (λ i. isNew b (length e) i && not (eqb i k)) (length e) c1 j m) g)),
-        λ x m d. not-false _ (and-false _ _ (any-false (λ y. not (eqb y (net .last)) && not (born es y || holds e y)) (net .n) c2 x m) (ap not (ne-eqb x (net .last) d))),
-        eqb-false _ _ c3,
-        eqb-false _ _ c4,
-      )
-
-module _ (net : Network) (es : Ears) (e : List ℕ) where
-  pub first-ends : Passed net es true e → (at e 0 ≡ net .root) × (at e (pred (length e)) ≡ net .first)
-  unfolding wrongCycle
-  first-ends p = let (a, z) = and-true _ _ (not-false _ (p .clear12 0 (omega arith))) in (eqb-true _ _ a, eqb-true _ _ z)
-
-  module _ (p : Passed net es false e) where
-    pub later-start : born es (at e 0) ≡ true
-    unfolding unbornEnd isNew
-    later-start = not-false _ (p .clear13 0 (omega (arith, ear-long net es false e p)))
-
-    pub later-end : born es (at e (pred (length e))) ≡ true
-    unfolding unbornEnd isNew
-    later-end =
-        let t = ear-long net es false e p in
-        let k = pred (length e) in
-        not-false _
-        (and-false _ _ (p .clear13 k (omega arith))
-        (ap not (false-and (ltb 0 k) _ (λ _. le-ltb (suc k) (length e) (omega arith)))))
-
-    pub later-inner : (k : ℕ) → 0 < k → suc k < length e → born es (at e k) ≡ false
-    unfolding bornBetween isNew
-    later-inner k l m = and-false _ _ (p .clear14 k (omega arith)) (true-and _ _ (lt-ltb 0 k l) (lt-ltb (suc k) (length e) m))
+      found : (k : ℕ) → k < length e → isNew b (length e) k ≡ true → at e k ≢ net .last → any (λ x. joined net (at e k) x && not (born es x || holds e x)) (net .n) ≡ true
+      found k l f d =
+          let (x, m, j, u, v) = p .neighbour k l f d in
+          true-any (λ x. joined net (at e k) x && not (born es x || holds e x)) (net .n) x m (true-and _ _ j (ap not (false-or _ _ u v)))
 
 -- two checks agree when their places do, and what comes after does where they are clear
 pub check-ext : (num c : ℕ) (p q : ℕ → Bool) (a z : Answer) → ((k : ℕ) → k < c → p k ≡ q k) → (Clear c p → a ≡ z) → check num c p a ≡ check num c q z

@@ -14,7 +14,7 @@ use Rattle.mondschein.specs.Judge.{Answer, given, verdict, judge}
 use Rattle.mondschein.proofs.Logic.{which, true-and, false-and}
 use Rattle.mondschein.proofs.Search.{count-ext, count-shift, count-skip, count-all}
 use Rattle.mondschein.proofs.Lists.{at-same, count-list}
-use Rattle.mondschein.proofs.Checks.{Passed, given-passed, passed-given, ear-long, ear-below, ear-simple, later-start, later-end, later-inner}
+use Rattle.mondschein.proofs.Checks.{Passed, given-passed, passed-given}
 use Rattle.mondschein.proofs.Births.{born-at}
 use Rattle.mondschein.proofs.Inner.{where?}
 
@@ -31,7 +31,7 @@ count-new (suc (suc c)) l =
 module _ (net : Network) (es : Ears) (e : List ℕ) where
   by-index : (b : Bool) → Passed net es b e → newSwitches net es e ≡ count (λ k. not (born es (at e k))) (length e)
   unfolding newSwitches
-  by-index b p = count-list (net .n) e (λ x. not (born es x)) (ear-simple net es b e p) (ear-below net es b e p)
+  by-index b p = count-list (net .n) e (λ x. not (born es x)) (p .simple) (p .below)
 
   first-count : length es ≡ 0 → Passed net es true e → newSwitches net es e ≡ length e
   first-count z p =
@@ -41,17 +41,17 @@ module _ (net : Network) (es : Ears) (e : List ℕ) where
 
   later-count : Passed net es false e → newSwitches net es e ≡ pred (pred (length e))
   unfolding isNew
-  later-count p = by-index false p ∙ count-ext _ (isNew false (length e)) (length e) same ∙ count-new (length e) (ear-long net es false e p)
+  later-count p = by-index false p ∙ count-ext _ (isNew false (length e)) (length e) same ∙ count-new (length e) (p .long)
     where
       same : (k : ℕ) → k < length e → not (born es (at e k)) ≡ isNew false (length e) k
       same k l =
           ⊎-elim
-          (λ (z : k ≡ 0). rw (at-same e k 0 z, later-start net es e p, le-ltb 0 k (omega arith)))
+          (λ (z : k ≡ 0). rw (at-same e k 0 z, p .ends refl .0, le-ltb 0 k (omega arith)))
           (⊎-elim
           (λ (z : k ≡ pred (length e)).
-          rw (at-same e k (pred (length e)) z, later-end net es e p)
+          rw (at-same e k (pred (length e)) z, p .ends refl .1)
           (sym (false-and (ltb 0 k) _ (λ _. le-ltb (suc k) (length e) (omega arith)))))
-          (λ (a, b). rw (later-inner net es e p k a b) (sym (true-and _ _ (lt-ltb 0 k a) (lt-ltb (suc k) (length e) b)))))
+          (λ (a, b). rw (p .inner refl k a b) (sym (true-and _ _ (lt-ltb 0 k a) (lt-ltb (suc k) (length e) b)))))
           (where? (length e) k l)
 
   -- the count of an ear that passes

@@ -14,7 +14,6 @@ use Rattle.mondschein.specs.Network.{Network, at, Simple, holds, Ears, e
 use Rattle.mondschein.specs.Order.{position, fromA, extend, order, course, parent1, parent2}
 use Rattle.mondschein.proofs.Logic.{which, clash, less?}
 use Rattle.mondschein.proofs.Lists.{holds-in, holds-at, holds-by, holds-nil}
-use Rattle.mondschein.proofs.Checks.{ear-long, ear-simple, first-ends, later-start, later-end, later-inner}
 use Rattle.mondschein.proofs.Births.{Passing, first-passed, later-passed, born-at, born-take, take-born, birth-lt, birth-old, birth-new, old-ear}
 use Rattle.mondschein.proofs.Order.{position-is, Fits, Turned, fromA-turned, turned-back, extend-old, extend-root, extend-last, extend-course, extend-sound, extend-keeps, extend-brings, extend-simple}
 
@@ -35,11 +34,11 @@ module _ (net : Network) (es : Ears) (acc : Passing net es) where
   later-fits i l o =
       let p = later-passed net es acc i l in
       record {
-        two = ear-long net _ false _ p;
-        simple = ear-simple net _ false _ p;
-        start = o .full _ (later-start net _ _ p);
-        end = o .full _ (later-end net _ _ p);
-        inner = λ k a b. ⊎-elim (λ t. clash (o .sound _ t) (later-inner net _ _ p k a b)) (λ f. f) (which (holds (order (take (suc i) es)) (at (earAt es (suc i)) k)));
+        two = p .long;
+        simple = p .simple;
+        start = o .full _ (p .ends refl .0);
+        end = o .full _ (p .ends refl .1);
+        inner = λ k a b. ⊎-elim (λ t. clash (o .sound _ t) (p .inner refl k a b)) (λ f. f) (which (holds (order (take (suc i) es)) (at (earAt es (suc i)) k)));
       }
 
   pub course-turned : (j : ℕ) → Turned (earAt es j) (course es j)
@@ -70,10 +69,10 @@ module _ (net : Network) (es : Ears) (acc : Passing net es) where
   first-at : (l : 0 < length es) (k : ℕ) → k < length (earAt es 0) → position (order (take 1 es)) (at (earAt es 0) k) ≡ k
   first-at l k m =
       rw (order-one l)
-      (position-is (earAt es 0) _ k m refl (λ j h q. let d = ear-simple net [] true _ (first-passed net es acc l) j k (omega arith) m q in omega arith))
+      (position-is (earAt es 0) _ k m refl (λ j h q. let d = (first-passed net es acc l) .simple j k (omega arith) m q in omega arith))
 
   pub root-held : 0 < length es → holds (earAt es 0) (net .root) ≡ true
-  root-held l = holds-by (earAt es 0) 0 _ (omega (arith, ear-long net [] true _ (first-passed net es acc l))) (first-ends net [] _ (first-passed net es acc l) .0)
+  root-held l = holds-by (earAt es 0) 0 _ (omega (arith, (first-passed net es acc l) .long)) ((first-passed net es acc l) .cycle refl .0)
 
   grown-one : 0 < length es → Grown 1
   unfolding course
@@ -85,10 +84,10 @@ module _ (net : Network) (es : Ears) (acc : Passing net es) where
             rw (order-one l) (subst (λ (i : ℕ). holds (earAt es i) x ≡ true) (let z : j ≡ 0 = omega (arith, a) in z) q);
         rising = up;
         rooted = λ _.
-            ap (position (order (take 1 es))) (sym (first-ends net [] _ (first-passed net es acc l) .0))
-            ∙ first-at l 0 (omega (arith, ear-long net [] true _ (first-passed net es acc l)));
-        ended = λ _. rw (order-one l) (first-ends net [] _ (first-passed net es acc l) .1);
-        simple = rw (order-one l) (ear-simple net [] true _ (first-passed net es acc l));
+            ap (position (order (take 1 es))) (sym ((first-passed net es acc l) .cycle refl .0))
+            ∙ first-at l 0 (omega (arith, (first-passed net es acc l) .long));
+        ended = λ _. rw (order-one l) ((first-passed net es acc l) .cycle refl .1);
+        simple = rw (order-one l) ((first-passed net es acc l) .simple);
       }
     where
       up : (j : ℕ) → j < 1 → (k : ℕ) → suc k < length (course es j) → position (order (take 1 es)) (at (course es j) k) < position (order (take 1 es)) (at (course es j) (suc k))

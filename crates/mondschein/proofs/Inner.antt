@@ -6,13 +6,14 @@ use mathlib.Core.Bool.{true}
 use mathlib.Core.List.{List}
 use Prim.Native.Nat.{ℕ, zero, suc, pred, _≤_, _<_}
 use native.Mathlib.Omega.{arith}
-use lib.Dec.{eqb, ltb}
+use lib.Dec.{eqb}
 use lib.ListN.{length}
-use borrow.Author.Tests.{ltb-true, lt-ltb, ne-eqb}
+use borrow.Author.Tests.{ne-eqb}
 use Rattle.mondschein.specs.Network.{at, In, Simple, Ears, earAt, birth, isNew}
 use Rattle.mondschein.specs.Mondschein.{On, Before, End, Inner, Long}
-use Rattle.mondschein.proofs.Logic.{less?, and-true, true-and}
+use Rattle.mondschein.proofs.Logic.{less?}
 use Rattle.mondschein.proofs.Lists.{at-same, holds-in, in-holds}
+use Rattle.mondschein.proofs.Checks.{new-between, between-new}
 use Rattle.mondschein.proofs.Births.{birth-is, birth-le}
 
 -- an index of a list is its first, its last, or between
@@ -20,12 +21,10 @@ pub where? : (c k : ℕ) → k < c → (k ≡ 0) ⊎ ((k ≡ pred c) ⊎ ((0 < k
 where? c k l = ⊎-elim (λ (m : 0 < k). ⊎-elim (λ m′. inr (inr (m, m′))) (λ (m′ : c ≤ suc k). inr (inl (omega arith))) (less? (suc k) c)) (λ m. inl (omega arith)) (less? 0 k)
 
 pub later-new : (i c k : ℕ) → isNew (eqb (suc i) 0) c k ≡ true → (0 < k) × (suc k < c)
-unfolding isNew
-later-new i c k h = let (a, b) = and-true (ltb 0 k) _ (rw (ne-eqb (suc i) 0 (λ q. omega arith)) at h) in (ltb-true _ _ a, ltb-true _ _ b)
+later-new i c k h = new-between c k (rw (ne-eqb (suc i) 0 (λ q. omega arith)) at h)
 
 pub new-later : (i c k : ℕ) → 0 < k → suc k < c → isNew (eqb (suc i) 0) c k ≡ true
-unfolding isNew
-new-later i c k l m = rw (ne-eqb (suc i) 0 (λ q. omega arith)) (true-and _ _ (lt-ltb 0 k l) (lt-ltb (suc k) c m))
+new-later i c k l m = rw (ne-eqb (suc i) 0 (λ q. omega arith)) (between-new c k l m)
 
 module _ (P : Ears) where
   -- a new index of P_i at which x stands

@@ -17,7 +17,7 @@ use Rattle.mondschein.specs.Routes.{OrderRules, Inserted, Course, TableR
 use Rattle.mondschein.specs.Demands.{Ordered, ShortEar, AnyThird}
 use Rattle.mondschein.proofs.Logic.{which, clash, less?}
 use Rattle.mondschein.proofs.Lists.{at-same, holds-in, in-holds}
-use Rattle.mondschein.proofs.Checks.{Passed, later-start, later-end}
+use Rattle.mondschein.proofs.Checks.{Passed}
 use Rattle.mondschein.proofs.Births.{Passing, accepted-passing, accepted-prefix, later-passed, next-passed, later, born-at, at-born, take-born, born-snoc, birth-old, birth-birth}
 use Rattle.mondschein.proofs.Order.{position-at, fromA-rule, extend-rule, extend-short}
 use Rattle.mondschein.proofs.Growth.{order-suc, order-one, order-snoc, Grown, grown, later-fits, root-held, parent1-old, parent2-old}
@@ -86,8 +86,8 @@ short-born net es e p s v h =
     let (k, l, q) = holds-in e v h in
     ap (born es) (sym q)
     ∙ ⊎-elim
-    (λ (m : k < 1). ap (born es) (at-same e k 0 (omega arith)) ∙ later-start net es e p)
-    (λ (m : 1 ≤ k). ap (born es) (at-same e k (pred (length e)) (omega arith)) ∙ later-end net es e p)
+    (λ (m : k < 1). ap (born es) (at-same e k 0 (omega arith)) ∙ p .ends refl .0)
+    (λ (m : 1 ≤ k). ap (born es) (at-same e k (pred (length e)) (omega arith)) ∙ p .ends refl .1)
     (less? k 1)
 
 pub short-ear : ShortEar

@@ -15,7 +15,7 @@ use Rattle.mondschein.proofs.Logic.{clash, same?, less?, trichotomy, or
 use Rattle.mondschein.proofs.Search.{true-any}
 use Rattle.mondschein.proofs.Lists.{at-same, holds-in, in-holds}
 use Rattle.mondschein.proofs.Links.{cases-joins, joined-adjacent, adjacent-joined, joined-sym, passes-along, along-passes, passes-held, trail-held, link-unique}
-use Rattle.mondschein.proofs.Checks.{Passed, ear-long, ear-below, ear-simple, ear-linked, ear-unused, ear-neighbour, ear-alone, first-ends, later-start, later-end, later-inner}
+use Rattle.mondschein.proofs.Checks.{Passed}
 use Rattle.mondschein.proofs.Births.{Passing, first-passed, later-passed, ear-two, earlier, born-at, born-take, take-born, birth-is, birth-lt, birth-birth}
 use Rattle.mondschein.proofs.Trees.{user, some-ear, last-born, birth-isNew, all-born, last-apart}
 use Rattle.mondschein.proofs.Inner.{where?, NewAt, inner-new, new-long, inner-birth}
@@ -34,15 +34,15 @@ module _ (net : Network) (proper : Proper net) (P : Ears) (acc : Passing net P) 
           (λ w. inl (at-same e 0 k (sym w) ∙ q))
           (⊎-elim
           (λ w. inr (at-same e _ k (sym w) ∙ q))
-          (λ (v, w). clash (take-born P (suc i) x j l (omega arith) (in-holds (earAt P j) x t)) (ap (born (take (suc i) P)) (sym q) ∙ later-inner net _ e (later-passed net P acc i b) k v w)))
+          (λ (v, w). clash (take-born P (suc i) x j l (omega arith) (in-holds (earAt P j) x t)) (ap (born (take (suc i) P)) (sym q) ∙ (later-passed net P acc i b) .inner refl k v w)))
           (where? (length e) k m)
 
       old : (y : ℕ) → born (take (suc i) P) y ≡ true → y ≡ x → Before P (suc i) x
       old y t r = let (j, l, _, o) = born-take P (suc i) y t in (j, l, subst (In (earAt P j)) r (holds-in (earAt P j) y o))
 
       olds : End P (suc i) x → Before P (suc i) x
-      olds (inl r) = old _ (later-start net _ e (later-passed net P acc i b)) r
-      olds (inr r) = old _ (later-end net _ e (later-passed net P acc i b)) r
+      olds (inl r) = old _ ((later-passed net P acc i b) .ends refl .0) r
+      olds (inr r) = old _ ((later-passed net P acc i b) .ends refl .1) r
 
   unique : (l : ℕ) → l < size net → (i j : ℕ) → i < length P → j < i → Contains net P i l → Contains net P j l → ⊥
   unfolding trail used
@@ -51,7 +51,7 @@ module _ (net : Network) (proper : Proper net) (P : Ears) (acc : Passing net P) 
       let e = earAt P (suc i) in
       let p = later-passed net P acc i b in
       let (k, a, q) = subst (λ (f : Bool). Along net (trail f e) l) (ne-eqb (suc i) 0 (λ q. omega arith)) t in
-      let f : used net (take (suc i) P) l ≡ false = subst (λ (z : ℕ). used net (take (suc i) P) z ≡ false) (link-unique net proper l _ _ m (cases-joins net l _ _ q)) (ear-unused net _ _ e p k a) in
+      let f : used net (take (suc i) P) l ≡ false = subst (λ (z : ℕ). used net (take (suc i) P) z ≡ false) (link-unique net proper l _ _ m (cases-joins net l _ _ q)) (p .unused k a) in
       let g : used net (take (suc i) P) l ≡ true =
       true-any (λ i₁. passes net (trail (eqb i₁ 0) (earAt (take (suc i) P) i₁)) l) (length (take (suc i) P)) j (omega (arith, length-take (suc i) P))
       (subst (λ (d : List ℕ). passes net (trail (eqb j 0) d) l ≡ true) (sym (earlier P (suc i) j h)) (along-passes net _ l u)) in
@@ -71,7 +71,7 @@ module _ (net : Network) (proper : Proper net) (P : Ears) (acc : Passing net P) 
   u-new = let (k, l, q) = holds-in (earAt P u) (net .last) u-held in (k, l, birth-isNew net proper P acc done (net .last) k (last-born net proper P acc done) l q, q)
 
   u-only : (j : ℕ) → j < length (earAt P u) → isNew (eqb u 0) (length (earAt P u)) j ≡ true → j ≡ u-new .0
-  u-only = ear-alone net _ _ _ (acc u u-below) (u-new .0) (u-new .1) (u-new .2) (u-new .3) .0
+  u-only = (acc u u-below) .alone (u-new .0) (u-new .1) (u-new .2) (u-new .3) .0
 
   u-all : (x : ℕ) → x < net .n → (j : ℕ) → u < j → born (take j P) x ≡ true
   u-all x m j l =
@@ -81,7 +81,7 @@ module _ (net : Network) (proper : Proper net) (P : Ears) (acc : Passing net P) 
       ⊎-elim
       (λ t. let (i, a, b, h) = born-take P u x t in take-born P j x i (omega (arith, a)) b h)
       (λ t. take-born P j x u l u-below t)
-      (or-true (born (take u P) x) _ (ear-alone net _ _ _ (acc u u-below) (u-new .0) (u-new .1) (u-new .2) (u-new .3) .1 x m d)))
+      (or-true (born (take u P) x) _ ((acc u u-below) .alone (u-new .0) (u-new .1) (u-new .2) (u-new .3) .1 x m d)))
       (same? x (net .last))
 
   ended : (j : ℕ) → u < j → Long P j → ⊥
@@ -89,8 +89,8 @@ module _ (net : Network) (proper : Proper net) (P : Ears) (acc : Passing net P) 
   ended (suc j) l (b, n) =
       let e = earAt P (suc j) in
       let p = later-passed net P acc j b in
-      let three : 2 < length e = omega (arith, ear-long net _ _ e p) in
-      clash (u-all (at e 1) (ear-below net _ _ e p 1 (omega arith)) (suc j) l) (later-inner net _ e p 1 (omega arith) three)
+      let three : 2 < length e = omega (arith, p .long) in
+      clash (u-all (at e 1) (p .below 1 (omega arith)) (suc j) l) (p .inner refl 1 (omega arith) three)
 
   avoids : (l : ℕ) → Joins net l (net .root) (net .last) → Contains net P u l → ⊥
   avoids l j h =
@@ -110,7 +110,7 @@ module _ (net : Network) (proper : Proper net) (P : Ears) (acc : Passing net P) 
       let c = n .0 in
       let (k, m, f, q) = inner-new P i x h in
       let d : at (earAt P i) k ≢ net .last = λ z. ended j (omega (arith, inner-birth P meets i (net .last) c (subst (Inner P i) (sym q ∙ z) h))) n′ in
-      let (y, a, t, v, w) = ear-neighbour net _ _ _ (acc i c) k m f d in
+      let (y, a, t, v, w) = (acc i c) .neighbour k m f d in
       (y, a, joined-adjacent net x y (subst (λ (z : ℕ). joined net z y ≡ true) q t), outside i y c v w)
 
   contained : (l : ℕ) → l < size net → (i : ℕ) × (i < length P) × Contains net P i l × ((j : ℕ) → j < length P → Contains net P j l → j ≡ i)
@@ -123,9 +123,9 @@ module _ (net : Network) (proper : Proper net) (P : Ears) (acc : Passing net P) 
   sound =
       record {
         decomposition = record {
-          inside = λ i b x (k, l, q). subst (λ (y : ℕ). y < net .n) q (ear-below net _ _ _ (acc i b) k l);
-          simple = λ i b. ear-simple net _ _ _ (acc i b);
-          linked = λ i b k l. joined-adjacent net _ _ (ear-linked net _ _ _ (acc i b) k l);
+          inside = λ i b x (k, l, q). subst (λ (y : ℕ). y < net .n) q ((acc i b) .below k l);
+          simple = λ i b. (acc i b) .simple;
+          linked = λ i b k l. joined-adjacent net _ _ ((acc i b) .linked k l);
           cycle = (three, joined-adjacent net _ _ (rw (ends .0, ends .1) (joined-sym net _ _ (adjacent-joined net _ _ (proper .rootFirst)))));
           paths = λ i b _. ear-two net P acc i b;
           meets = meets;
@@ -145,7 +145,7 @@ module _ (net : Network) (proper : Proper net) (P : Ears) (acc : Passing net P) 
       first = first-passed net P acc (some-ear net proper P acc done)
 
       three : 3 ≤ length (earAt P 0)
-      three = ear-long net _ _ _ first
+      three = first .long
 
       ends : (at (earAt P 0) 0 ≡ net .root) × (at (earAt P 0) (pred (length (earAt P 0))) ≡ net .first)
-      ends = first-ends net [] _ first
+      ends = first .cycle refl

@@ -17,7 +17,7 @@ use Rattle.mondschein.proofs.Logic.{which, clash, same?, less?, trichot
 use Rattle.mondschein.proofs.Search.{low-is, low-found, any-true}
 use Rattle.mondschein.proofs.Lists.{at-same, holds-in, holds-at, holds-by}
 use Rattle.mondschein.proofs.Links.{joined-adjacent, adjacent-joined, joined-sym, passes-held, trail-held}
-use Rattle.mondschein.proofs.Checks.{Passed, ear-long, ear-below, ear-simple, ear-linked, ear-neighbour, ear-alone, first-ends, later-start, later-end}
+use Rattle.mondschein.proofs.Checks.{Passed}
 use Rattle.mondschein.proofs.Births.{Passing, first-passed, later-passed, ear-two, at-born, born-take, take-born, birth-is, birth-le, birth-lt, birth-birth, birth-unique}
 use Rattle.mondschein.proofs.Order.{position-at, turned-fits, turned-on, turned-back}
 use Rattle.mondschein.proofs.Growth.{grown, course-turned, later-fits, root-held}
@@ -57,10 +57,10 @@ module _ (net : Network) (proper : Proper net) (es : Ears) (acc : Passing net es
           let p = later-passed net es acc i b in
           rw (ne-eqb (suc i) 0 (omega arith))
           (true-and (ltb 0 k) _
-          (⊎-elim (λ m. lt-ltb 0 k m) (λ (m : k ≤ 0). absurd (u (ap (born (take (suc i) es)) (sym q ∙ at-same e k 0 (omega arith)) ∙ later-start net _ e p))) (less? 0 k))
+          (⊎-elim (λ m. lt-ltb 0 k m) (λ (m : k ≤ 0). absurd (u (ap (born (take (suc i) es)) (sym q ∙ at-same e k 0 (omega arith)) ∙ p .ends refl .0))) (less? 0 k))
           (⊎-elim
           (λ m. lt-ltb (suc k) (length e) m)
-          (λ (m : length e ≤ suc k). absurd (u (ap (born (take (suc i) es)) (sym q ∙ at-same e k (pred (length e)) (omega arith)) ∙ later-end net _ e p)))
+          (λ (m : length e ≤ suc k). absurd (u (ap (born (take (suc i) es)) (sym q ∙ at-same e k (pred (length e)) (omega arith)) ∙ p .ends refl .1)))
           (less? (suc k) (length e))))
 
   pub all-born : (x : ℕ) → x < net .n → born es x ≡ true
@@ -68,7 +68,7 @@ module _ (net : Network) (proper : Proper net) (es : Ears) (acc : Passing net es
       let i = birth es (net .last) in
       let b = birth-lt es (net .last) last-born in
       let (k, l, q) = holds-in (earAt es i) (net .last) (birth-held (net .last) last-born) in
-      let a = ear-alone net (take i es) (eqb i 0) (earAt es i) (acc i b) k l (birth-isNew (net .last) k last-born l q) q in
+      let a = (acc i b) .alone k l (birth-isNew (net .last) k last-born l q) q in
       ⊎-elim
       (λ e. subst (λ (y : ℕ). born es y ≡ true) (sym e) last-born)
       (λ d.
@@ -89,7 +89,7 @@ module _ (net : Network) (proper : Proper net) (es : Ears) (acc : Passing net es
   course-below : (i k : ℕ) → i < length es → k < length (course es i) → at (course es i) k < net .n
   course-below i k b l =
       let (j, m, q) = holds-in (earAt es i) _ (course-held i k l) in
-      subst (λ (z : ℕ). z < net .n) q (ear-below net _ _ _ (acc i b) j m)
+      subst (λ (z : ℕ). z < net .n) q ((acc i b) .below j m)
 
   course-link : (i k : ℕ) → i < length es → suc k < length (course es i) → joined net (at (course es i) k) (at (course es i) (suc k)) ≡ true
   course-link i k b l =
@@ -97,12 +97,12 @@ module _ (net : Network) (proper : Proper net) (es : Ears) (acc : Passing net es
       let t = course-turned net es acc i in
       let m : suc k < length e = omega (arith, t .long) in
       ⊎-elim
-      (λ w. rw (w k (omega arith), w (suc k) m) (ear-linked net _ _ e (acc i b) k m))
+      (λ w. rw (w k (omega arith), w (suc k) m) ((acc i b) .linked k m))
       (λ w.
       rw (w k (omega arith), w (suc k) m)
       (joined-sym net _ _
       (subst (λ (z : ℕ). joined net (at e (length e - suc (suc k))) (at e z) ≡ true) (let q : suc (length e - suc (suc k)) ≡ length e - suc k = omega arith in q)
-      (ear-linked net _ _ e (acc i b) (length e - suc (suc k)) (omega arith)))))
+      ((acc i b) .linked (length e - suc (suc k)) (omega arith)))))
       (t .ways)
 
   -- a course begins at the root or at a switch born before, and ends at first or at one born before
@@ -110,7 +110,7 @@ module _ (net : Network) (proper : Proper net) (es : Ears) (acc : Passing net es
       → ((at (course es i) 0 ≡ net .root) ⊎ (born (take i es) (at (course es i) 0) ≡ true))
       × ((at (course es i) (pred (length (course es i))) ≡ net .first) ⊎ (born (take i es) (at (course es i) (pred (length (course es i)))) ≡ true))
   unfolding course
-  course-ends zero b = let (x, y) = first-ends net [] _ (first-passed net es acc b) in (inl x, inl y)
+  course-ends zero b = let (x, y) = (first-passed net es acc b) .cycle refl in (inl x, inl y)
   course-ends (suc i) b =
       let o = grown net es acc (suc i) (omega arith) in
       let g = turned-fits _ _ _ (later-fits net es acc i b o) (course-turned net es acc (suc i)) in
@@ -209,7 +209,7 @@ module _ (net : Network) (proper : Proper net) (es : Ears) (acc : Passing net es
       let i = birth es x in
       let b = birth-lt es x (all-born x m) in
       let (k, l, q) = holds-in (earAt es i) x (birth-held x (all-born x m)) in
-      let (y, a, j, u, v) = ear-neighbour net (take i es) (eqb i 0) (earAt es i) (acc i b) k l (birth-isNew x k (all-born x m) l q) (λ z. f (sym q ∙ z)) in (
+      let (y, a, j, u, v) = (acc i b) .neighbour k l (birth-isNew x k (all-born x m) l q) (λ z. f (sym q ∙ z)) in (
         y,
         a,
         subst (λ (z : ℕ). joined net z y ≡ true) q j,
@@ -263,7 +263,7 @@ module _ (net : Network) (proper : Proper net) (es : Ears) (acc : Passing net es
   first-birth : birth es (net .first) ≡ 0
   first-birth =
       let p = first-passed net es acc some-ear in
-      omega (arith, birth-le es (net .first) 0 some-ear (holds-by (earAt es 0) _ _ (let l : pred (length (earAt es 0)) < length (earAt es 0) = omega (arith, ear-long net [] true _ p) in l) (first-ends net [] _ p .1)))
+      omega (arith, birth-le es (net .first) 0 some-ear (holds-by (earAt es 0) _ _ (let l : pred (length (earAt es 0)) < length (earAt es 0) = omega (arith, p .long) in l) (p .cycle refl .1)))
 
   stays : (b : Bool) → b ≡ true → (x y : ℕ) → cond b x y ≡ x
   stays true e x y = refl
@@ -287,10 +287,10 @@ module _ (net : Network) (proper : Proper net) (es : Ears) (acc : Passing net es
   first-inner (suc i) z k l q r = omega arith
   first-inner zero z k l q r =
       let p = first-passed net es acc some-ear in
-      let (x, y) = first-ends net [] _ p in
-      let n = ear-long net [] true _ p in
-      let a = ear-simple net [] true _ p k 0 (omega arith) (omega arith) (q ∙ sym x) in
-      let b = ear-simple net [] true _ p (suc k) (pred (length (earAt es 0))) l (omega arith) (r ∙ sym y) in
+      let (x, y) = p .cycle refl in
+      let n = p .long in
+      let a = p .simple k 0 (omega arith) (omega arith) (q ∙ sym x) in
+      let b = p .simple (suc k) (pred (length (earAt es 0))) l (omega arith) (r ∙ sym y) in
       omega arith
 
   stale : (b : Bool) (c j : ℕ) → j < c → isNew b c j ≡ false → (j ≡ 0) ⊎ (j ≡ pred c)
@@ -304,7 +304,7 @@ module _ (net : Network) (proper : Proper net) (es : Ears) (acc : Passing net es
       let e = earAt es i in
       let b = birth-lt es (net .last) last-born in
       let (k, l, q) = holds-in e (net .last) (birth-held (net .last) last-born) in
-      let (only, rest, u, v) = ear-alone net (take i es) (eqb i 0) e (acc i b) k l (birth-isNew (net .last) k last-born l q) q in
+      let (only, rest, u, v) = (acc i b) .alone k l (birth-isNew (net .last) k last-born l q) q in
       let (j, m, r) = holds-in e (net .root) h in
       ⊎-elim
       (λ t. proper .distinct .1 (sym r ∙ at-same e j k (only j m t) ∙ q))
