@@ -4,20 +4,20 @@ use mathlib.Core.Path.{_≡_, refl, sym, ap, ap₂, _∙_, subst}
 use mathlib.Core.Logic.{_⊎_, inl, inr, ⊎-elim}
 use mathlib.Core.Bool.{Bool, true, false, _||_}
 use mathlib.Core.List.{List, [], _∷_, _++_}
-use Prim.Native.Nat.{ℕ, zero, suc, _≤_, _<_}
+use Prim.Native.Nat.{ℕ, zero, suc, pred, _≤_, _<_}
 use native.Mathlib.Omega.{arith}
 use native.Mathlib.Numerals.{add-one}
 use lib.Dec.{eqb}
 use lib.ListN.{length, take, length-take, length-append, List·getD-append}
 use lib.Seq.{getD-take, getD-at, length-take-le, take-append-le, take-at}
 use borrow.Author.Tests.{ne-eqb}
-use Rattle.mondschein.specs.Network.{low, any, Network, at, In, holds, passes, Ears, earAt, born, birth, trail, used, newCount}
+use Rattle.mondschein.specs.Network.{low, any, Network, at, In, holds, passes, Ears, earAt, born, birth, trail, used, isNew, newCount}
 use Rattle.mondschein.specs.Judge.{Answer, given, verdict, judge, Accepted}
 use Rattle.mondschein.specs.Mondschein.{Before, Birth}
-use Rattle.mondschein.proofs.Logic.{clash, less?, trichotomy}
-use Rattle.mondschein.proofs.Search.{IsLow, low-is, low-eq, any-true, any-false, true-any, any-suc, any-ext}
-use Rattle.mondschein.proofs.Lists.{holds-in, in-holds}
-use Rattle.mondschein.proofs.Checks.{Passed, given-passed, passed-given}
+use Rattle.mondschein.proofs.Logic.{which, clash, less?}
+use Rattle.mondschein.proofs.Search.{IsLow, low-is, low-eq, low-none, any-true, any-false, true-any, any-suc, any-ext}
+use Rattle.mondschein.proofs.Lists.{at-same, holds-in, in-holds}
+use Rattle.mondschein.proofs.Checks.{end-new, Passed, given-passed, passed-given}
 
 pub born-at : (es : Ears) (x : ℕ) → born es x ≡ true → (i : ℕ) × (i < length es) × (holds (earAt es i) x ≡ true)
 unfolding born
@@ -54,6 +54,16 @@ birth-le es x i l h = ⊎-elim (λ m. clash h (birth-is es x .before i m)) (λ m
 
 pub birth-lt : (es : Ears) (x : ℕ) → born es x ≡ true → birth es x < length es
 birth-lt es x h = let (i, l, q) = born-at es x h in omega (arith, birth-le es x i l q)
+
+pub birth-held : (es : Ears) (x : ℕ) → born es x ≡ true → holds (earAt es (birth es x)) x ≡ true
+birth-held es x h = birth-is es x .hit (birth-lt es x h)
+
+pub not-before : (es : Ears) (x : ℕ) → born (take (birth es x) es) x ≡ true → ⊥
+not-before es x h = let (j, a, b, q) = born-take es (birth es x) x h in clash q (birth-is es x .before j a)
+
+pub birth-unborn : (es : Ears) (x : ℕ) → born es x ≡ false → birth es x ≡ length es
+unfolding birth
+birth-unborn es x u = low-none (λ i. holds (earAt es i) x) (length es) (unborn-at es x u)
 
 -- Definition 3's birth is `birth`
 pub birth-birth : (es : Ears) (x : ℕ) → born es x ≡ true → Birth es (birth es x) x
@@ -161,6 +171,25 @@ module _ (net : Network) (es : Ears) where
         two : (b : Bool) → Passed net (take i es) b (earAt es i) → 2 ≤ length (earAt es i)
         two true p = omega (arith, p .long)
         two false p = p .long
+
+    -- in its birth ear a switch is new
+    pub birth-isNew : (x k : ℕ) → born es x ≡ true → k < length (earAt es (birth es x)) → at (earAt es (birth es x)) k ≡ x → isNew (eqb (birth es x) 0) (length (earAt es (birth es x))) k ≡ true
+    unfolding isNew
+    birth-isNew x k h l q = go (birth es x) (birth-lt es x h) (not-before es x) l q
+      where
+        go : (i : ℕ) → i < length es → (born (take i es) x ≡ true → ⊥) → k < length (earAt es i) → at (earAt es i) k ≡ x → isNew (eqb i 0) (length (earAt es i)) k ≡ true
+        go zero b u l q = refl
+        go (suc i) b u l q =
+            let e = earAt es (suc i) in
+            let p = later-passed i b in
+            rw (ne-eqb (suc i) 0 (omega arith))
+            (⊎-elim
+            (λ t. t)
+            (λ f. absurd (u (⊎-elim
+            (λ (z : k ≡ 0). ap (born (take (suc i) es)) (sym q ∙ at-same e k 0 z) ∙ p .ends refl .0)
+            (λ (z : k ≡ pred (length e)). ap (born (take (suc i) es)) (sym q ∙ at-same e k _ z) ∙ p .ends refl .1)
+            (end-new (length e) k l f))))
+            (which (isNew false (length e) k)))
 
   -- the ear after es passes
   pub next-passed : (e : List ℕ) (ds : Ears) → Passing net (es ++ (e ∷ ds)) → Passed net es (eqb (length es) 0) e

@@ -43,5 +43,5 @@ demand3 cs net es h =
       walkOf net es,
       subst (λ (s : State). Entries machine s net (parentOf net es)) back (entries net es),
       subst (λ (s : State). Writes machine s net (walkOf net es)) back (writes net es),
-      closed-routes net proper es acc u (parentOf net es) refl refl (third-rule net proper es acc u),
+      closed-routes net proper es acc u (parentOf net es) (λ v. refl) (λ v. refl) (third-rule net proper es acc u),
     )

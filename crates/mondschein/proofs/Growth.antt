@@ -8,14 +8,15 @@ use Prim.Native.Nat.{ℕ, zero, suc, pred, _≤_, _<_}
 use native.Mathlib.Omega.{arith}
 use lib.Dec.{eqb}
 use lib.ListN.{length, take}
-use lib.Seq.{take-suc, take-append-le, take-at, getD-at}
-use borrow.Author.Tests.{ne-eqb}
+use lib.Seq.{take-length, take-suc, take-append-le, take-at, getD-at}
+use borrow.Author.Tests.{eq-eqb, ne-eqb}
 use Rattle.mondschein.specs.Network.{Network, at, Simple, holds, Ears, earAt, born, birth}
 use Rattle.mondschein.specs.Order.{position, fromA, extend, order, course, parent1, parent2}
 use Rattle.mondschein.proofs.Logic.{which, clash, less?}
 use Rattle.mondschein.proofs.Lists.{holds-in, holds-at, holds-by, holds-nil}
-use Rattle.mondschein.proofs.Births.{Passing, first-passed, later-passed, born-at, born-take, take-born, birth-lt, birth-old, birth-new, old-ear}
-use Rattle.mondschein.proofs.Order.{position-is, Fits, Turned, fromA-turned, turned-back, extend-old, extend-root, extend-last, extend-course, extend-sound, extend-keeps, extend-brings, extend-simple}
+use Rattle.mondschein.proofs.Checks.{Passed}
+use Rattle.mondschein.proofs.Births.{Passing, first-passed, later-passed, born-at, at-born, born-take, take-born, birth-lt, birth-old, birth-new, old-ear}
+use Rattle.mondschein.proofs.Order.{position-is, position-at, Fits, Turned, fromA-turned, turned-back, extend-old, extend-root, extend-last, extend-course, extend-sound, extend-keeps, extend-brings, extend-simple}
 
 pub order-suc : (es : Ears) (i : ℕ) → i < length es → order (take (suc i) es) ≡ extend (order (take i es)) (earAt es i)
 unfolding order
@@ -139,6 +140,46 @@ module _ (net : Network) (es : Ears) (acc : Passing net es) where
   grown zero l = grown-zero
   grown (suc zero) l = grown-one l
   grown (suc (suc i)) l = grown-suc i l (grown (suc i) (omega arith))
+
+  -- the order of the whole list
+  pub whole-grown : Grown (length es)
+  whole-grown = grown (length es) (omega arith)
+
+  pub order-full : (x : ℕ) → born es x ≡ true → holds (order es) x ≡ true
+  order-full x h = subst (λ (z : Ears). born z x ≡ true → holds (order z) x ≡ true) (take-length es) (whole-grown .full x) h
+
+  pub order-sound : (x : ℕ) → holds (order es) x ≡ true → born es x ≡ true
+  order-sound x h = subst (λ (z : Ears). holds (order z) x ≡ true → born z x ≡ true) (take-length es) (whole-grown .sound x) h
+
+  pub order-simple : Simple (order es)
+  order-simple = subst (λ (z : Ears). Simple (order z)) (take-length es) (whole-grown .simple)
+
+  pub order-some : 0 < length es → 0 < length (order es)
+  order-some l = omega (arith, position-at (order es) (net .root) (order-full (net .root) (at-born es (net .root) 0 l (root-held l))) .0)
+
+  -- the next ear has its ends in the order, and nothing else
+  pub next-fits : (e : List ℕ) → Passed net es false e → Fits (order es) e
+  next-fits e p =
+      record {
+        two = p .long;
+        simple = p .simple;
+        start = order-full _ (p .ends refl .0);
+        end = order-full _ (p .ends refl .1);
+        inner = λ k a b. ⊎-elim (λ t. clash (order-sound _ t) (p .inner refl k a b)) (λ f. f) (which (holds (order es) (at e k)));
+      }
+
+-- root's entries, and first's in tree 2
+pub parent1-root : (net : Network) (es : Ears) (v : ℕ) → v ≡ net .root → parent1 net es v ≡ v
+unfolding parent1
+parent1-root net es v e = rw (eq-eqb v (net .root) e)
+
+pub parent2-root : (net : Network) (es : Ears) (v : ℕ) → v ≡ net .root → parent2 net es v ≡ v
+unfolding parent2
+parent2-root net es v e = rw (eq-eqb v (net .root) e)
+
+pub parent2-first : (net : Network) (es : Ears) (v : ℕ) → v ≢ net .root → v ≡ net .first → parent2 net es v ≡ net .root
+unfolding parent2
+parent2-first net es v d e = rw (ne-eqb v (net .root) d, eq-eqb v (net .first) e)
 
 -- one more ear
 pub order-snoc : (es : Ears) (e : List ℕ) → order (es ++ (e ∷ [])) ≡ extend (order es) e

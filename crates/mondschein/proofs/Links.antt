@@ -3,17 +3,18 @@
 use mathlib.Core.Path.{_≡_, refl, sym, ap₂, _∙_, subst}
 use mathlib.Core.Logic.{_⊎_, inl, inr, ⊎-elim, _≢_}
 use mathlib.Core.Bool.{Bool, true, false, _&&_, _||_, or-comm}
-use mathlib.Core.List.{List, [], _∷_, _++_}
-use Prim.Native.Nat.{ℕ, zero, suc, pred, _+_, _≤_, _<_}
+use mathlib.Core.List.{List, [], _∷_, _++_, reverse, reverse-reverse}
+use Prim.Native.Nat.{ℕ, zero, suc, pred, _+_, _-_, _≤_, _<_}
 use native.Mathlib.Omega.{arith}
 use lib.Dec.{eqb}
 use lib.ListN.{length, length-append, List·getD-append}
+use lib.ListN as L
 use lib.Seq.{getD-at}
 use borrow.Author.Tests.{eqb-true, eq-eqb}
 use Rattle.mondschein.specs.Network.{low, any, Network, at, In, holds, size, former, latter, Joins, Adjacent, Along, joins, joined, passes, linkOf, Proper, trail}
 use Rattle.mondschein.proofs.Logic.{which, clash, less?, and-true, or-true, true-and, or-left, true-or}
-use Rattle.mondschein.proofs.Search.{low-eq, low-found, any-true, true-any}
-use Rattle.mondschein.proofs.Lists.{holds-in, holds-by}
+use Rattle.mondschein.proofs.Search.{low-ext, low-found, any-true, true-any}
+use Rattle.mondschein.proofs.Lists.{at-same, at-reverse, holds-in, holds-by}
 
 pub passes-nil : {X : Type 0} (net : Network) (v i : ℕ) → passes net (v ∷ []) i ≡ true → X
 unfolding passes
@@ -79,6 +80,10 @@ pub joins-sym : (net : Network) (i a b : ℕ) → joins net i a b ≡ joins net 
 unfolding joins
 joins-sym net i a b = or-comm (eqb (former net i) a && eqb (latter net i) b) (eqb (former net i) b && eqb (latter net i) a)
 
+pub linkOf-sym : (net : Network) (a b : ℕ) → linkOf net a b ≡ linkOf net b a
+unfolding linkOf
+linkOf-sym net a b = low-ext _ _ (size net) (λ i _. joins-sym net i a b)
+
 pub joined-sym : (net : Network) (a b : ℕ) → joined net a b ≡ true → joined net b a ≡ true
 unfolding joined
 joined-sym net a b h = let (i, l, q) = any-true (λ i. joins net i a b) (size net) h in true-any (λ i. joins net i b a) (size net) i l (joins-sym net i b a ∙ q)
@@ -93,6 +98,27 @@ passes-held net t i a b h j =
     (λ (x, y). (holds-by t k a (omega arith) x, holds-by t (suc k) b m y))
     (λ (x, y). (holds-by t (suc k) a m y, holds-by t k b (omega arith) x))
     (joins-ends net i (at t k) (at t (suc k)) a b q j)
+
+-- a list turned round passes the same links
+pub along-reverse : (net : Network) (l : List ℕ) (i : ℕ) → Along net l i → Along net (reverse l) i
+along-reverse net l i (k, h, j) =
+    let m = length l - suc (suc k) in (
+      m,
+      omega (arith, L.length-reverse l),
+      joins-cases net i _ _
+          (ap₂ (joins net i)
+          (at-reverse l m (omega arith) ∙ at-same l _ (suc k) (omega arith))
+          (at-reverse l (suc m) (omega arith) ∙ at-same l _ k (omega arith))
+          ∙ joins-sym net i _ _
+          ∙ cases-joins net i _ _ j),
+    )
+
+pub passes-reverse : (net : Network) (l : List ℕ) (i : ℕ) → passes net (reverse l) i ≡ passes net l i
+passes-reverse net l i =
+    ⊎-elim
+    (λ t. along-passes net (reverse l) i (along-reverse net l i (passes-along net l i t)) ∙ sym t)
+    (λ f. not-passes net (reverse l) i (λ h. clash (along-passes net l i (subst (λ (z : List ℕ). Along net z i) (reverse-reverse l) (along-reverse net (reverse l) i h))) f) ∙ sym f)
+    (which (passes net l i))
 
 -- an ear's trail holds the ear's switches, and passes the links between its neighbours
 pub trail-held : (b : Bool) (e : List ℕ) (x : ℕ) → 0 < length e → holds (trail b e) x ≡ true → holds e x ≡ true

@@ -3,7 +3,7 @@
 use mathlib.Core.Path.{_≡_, refl, sym, ap, _∙_, subst}
 use mathlib.Core.Logic.{_⊎_, inl, inr, ⊎-elim, _≢_}
 use mathlib.Core.Bool.{Bool, true, false, _&&_, _||_}
-use mathlib.Core.List.{List, [], _∷_, _++_, reverse, reverse-cons}
+use mathlib.Core.List.{List, [], _∷_, _++_, reverse, reverse-cons, reverse-reverse}
 use Prim.Native.Nat.{ℕ, zero, suc, _-_, _≤_, _<_}
 use native.Mathlib.Omega.{arith}
 use lib.Dec.{eqb}
@@ -13,7 +13,7 @@ use lib.Seq.{getD-at}
 use borrow.Author.Tests.{eqb-true, eq-eqb, ne-eqb}
 use Rattle.mondschein.specs.Network.{any, count, at, In, Simple, holds}
 use Rattle.mondschein.proofs.Logic.{which, clash, trichotomy, and-true, or-left, true-or, false-or}
-use Rattle.mondschein.proofs.Search.{any-true, true-any, count-lt, count-bound, count-ext, count-shift, count-or, count-none, count-one}
+use Rattle.mondschein.proofs.Search.{any-true, true-any, pigeon, count-ext, count-shift, count-or, count-none, count-one}
 
 pub holds-in : (l : List ℕ) (x : ℕ) → holds l x ≡ true → (k : ℕ) × (k < length l) × (at l k ≡ x)
 unfolding holds
@@ -72,35 +72,20 @@ at-reverse (x ∷ l) k h =
     ∙ at-same (x ∷ l) 0 (suc (length l) - suc k) (omega arith)))
     (trichotomy k (length l)))
 
-unfoldable Distinct : List ℕ → Type 0
-Distinct [] = Unit {0}
-Distinct (x ∷ l) = (holds l x ≡ false) × Distinct l
+pub in-reverse : (l : List ℕ) (x : ℕ) → In l x → In (reverse l) x
+in-reverse l x (k, h, e) =
+    (length l - suc k, omega (arith, L.length-reverse l), at-reverse l (length l - suc k) (omega arith) ∙ at-same l _ k (omega arith) ∙ e)
 
-distinct-length : (n : ℕ) (l : List ℕ) → Distinct l → ((x : ℕ) → holds l x ≡ true → x < n) → length l ≤ n
-unfolding Distinct
-distinct-length n l d b = omega (arith, go l d b, count-bound (holds l) n)
-  where
-    go : (l : List ℕ) → Distinct l → ((x : ℕ) → holds l x ≡ true → x < n) → length l ≤ count (holds l) n
-    go [] d b = omega arith
-    go (x ∷ l) d b =
-        omega (
-          arith,
-          go l (d .1) (λ y h. b y (holds-there x l y h)),
-          count-lt (holds l) (holds (x ∷ l)) n (λ k m h. holds-there x l k h) x (b x (holds-here x l)) (d .0) (holds-here x l),
-        )
-
--- a list that repeats nothing is Distinct
-simple-distinct : (l : List ℕ) → Simple l → Distinct l
-unfolding Distinct
-simple-distinct [] d = tt
-simple-distinct (x ∷ l) d = (
-  ⊎-elim (λ h. let (k, m, q) = holds-in l x h in let z = d 0 (suc k) (omega arith) (omega (arith, m)) (sym q) in absurd (omega arith)) (λ f. f) (which (holds l x)),
-  simple-distinct l (λ j k a b q. let z = d (suc j) (suc k) (omega arith) (omega arith) q in omega arith),
-)
+pub holds-reverse : (l : List ℕ) (x : ℕ) → holds (reverse l) x ≡ holds l x
+holds-reverse l x =
+    ⊎-elim
+    (λ t. in-holds (reverse l) x (in-reverse l x (holds-in l x t)) ∙ sym t)
+    (λ f. out-holds (reverse l) x (λ i. clash (in-holds l x (subst (λ (z : List ℕ). In z x) (reverse-reverse l) (in-reverse (reverse l) x i))) f) ∙ sym f)
+    (which (holds l x))
 
 -- a list of different numbers below n has at most n
 pub simple-length : (n : ℕ) (l : List ℕ) → Simple l → ((x : ℕ) → In l x → x < n) → length l ≤ n
-simple-length n l d b = distinct-length n l (simple-distinct l d) (λ x h. b x (holds-in l x h))
+simple-length n l d b = pigeon (length l) n (at l) (λ k h. b (at l k) (k, h, refl)) d
 
 pub holds-head : (y : ℕ) (l : List ℕ) (x : ℕ) → holds (y ∷ l) x ≡ (eqb y x || holds l x)
 holds-head y l x =

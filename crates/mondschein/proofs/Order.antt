@@ -3,14 +3,14 @@
 use mathlib.Core.Path.{_≡_, refl, sym, ap, _∙_, subst}
 use mathlib.Core.Logic.{_⊎_, inl, inr, ⊎-elim, _≢_}
 use mathlib.Core.Bool.{Bool, true, false, cond}
-use mathlib.Core.List.{List, [], _∷_, _++_, reverse, append-assoc}
+use mathlib.Core.List.{List, [], _∷_, _++_, reverse, append-assoc, reverse-reverse}
 use Prim.Native.Nat.{ℕ, zero, suc, pred, _+_, _-_, _≤_, _<_}
 use native.Mathlib.Omega.{arith}
 use lib.Dec.{eqb, ltb}
 use lib.ListN.{length, take, drop, length-append, length-take, length-drop, List·getD-append, take-append-drop}
 use lib.ListN as L
 use lib.Seq.{getD-append-add, getD-take, getD-drop, take-suc, drop-cons}
-use borrow.Author.Tests.{ltb-true, ltb-false, eqb-true, eqb-false, eq-eqb, ne-eqb}
+use borrow.Author.Tests.{ltb-true, ltb-false, lt-ltb, le-ltb, eqb-true, eqb-false, eq-eqb, ne-eqb}
 use Rattle.mondschein.specs.Network.{low, any, at, In, Simple, holds}
 use Rattle.mondschein.specs.Order.{position, fromA, between, extend}
 use Rattle.mondschein.specs.Routes.{FromA, Inserted}
@@ -217,6 +217,15 @@ turned-back e c t x h =
     (λ w. holds-by e (length e - suc k) x (omega (arith, t .long)) (sym (w k (omega (arith, t .long))) ∙ q))
     (t .ways)
 
+-- the two ends have different positions
+ends-differ : (o e : List ℕ) → Fits o e → position o (at e 0) ≢ position o (at e (pred (length e)))
+ends-differ o e f q =
+    omega (
+      arith,
+      f .two,
+      f .simple 0 (pred (length e)) (omega (arith, f .two)) (omega (arith, f .two)) (sym (position-at o (at e 0) (f .start) .1) ∙ ap (at o) q ∙ position-at o _ (f .end) .1),
+    )
+
 -- it goes up from A to B
 pub fromA-up : (o e : List ℕ) → Fits o e → position o (at (fromA o e) 0) < position o (at (fromA o e) (pred (length (fromA o e))))
 unfolding fromA
@@ -227,8 +236,24 @@ fromA-up o e f = go (ltb (position o (at e 0)) (position o (at e (pred (length e
     go false h =
         let a : at (reverse e) 0 ≡ at e (pred (length e)) = at-reverse e 0 (omega (arith, f .two)) ∙ at-same e _ _ (omega arith) in
         let z : at (reverse e) (pred (length (reverse e))) ≡ at e 0 = at-same (reverse e) _ _ (ap pred (L.length-reverse e)) ∙ at-reverse e (pred (length e)) (omega (arith, f .two)) ∙ at-same e _ 0 (omega (arith, f .two)) in
-        let d : position o (at e 0) ≢ position o (at e (pred (length e))) = λ q. omega (arith, f .two, f .simple 0 (pred (length e)) (omega (arith, f .two)) (omega (arith, f .two)) (sym (position-at o (at e 0) (f .start) .1) ∙ ap (at o) q ∙ position-at o _ (f .end) .1)) in
-        rw (a, z) (omega (arith, ltb-false (position o (at e 0)) (position o (at e (pred (length e)))) h))
+        rw (a, z) (omega (arith, ends-differ o e f, ltb-false (position o (at e 0)) (position o (at e (pred (length e)))) h))
+
+-- it is the same from either end
+pub fromA-reverse : (o e : List ℕ) → Fits o e → fromA o (reverse e) ≡ fromA o e
+unfolding fromA
+fromA-reverse o e f =
+    rw (first-reverse, last-reverse)
+    (⊎-elim
+    (λ (l : position o (at e 0) < position o (at e (pred (length e)))). rw (lt-ltb _ _ l, le-ltb (position o (at e (pred (length e)))) (position o (at e 0)) (omega arith)) (reverse-reverse e))
+    (λ (l : position o (at e (pred (length e))) ≤ position o (at e 0)).
+    rw (le-ltb _ _ l, lt-ltb (position o (at e (pred (length e)))) (position o (at e 0)) (omega (arith, ends-differ o e f))))
+    (less? (position o (at e 0)) (position o (at e (pred (length e))))))
+  where
+    first-reverse : at (reverse e) 0 ≡ at e (pred (length e))
+    first-reverse = at-reverse e 0 (omega (arith, f .two)) ∙ at-same e _ _ (omega arith)
+
+    last-reverse : at (reverse e) (pred (length (reverse e))) ≡ at e 0
+    last-reverse = at-same (reverse e) _ _ (ap pred (L.length-reverse e)) ∙ at-reverse e (pred (length e)) (omega (arith, f .two)) ∙ at-same e _ 0 (omega (arith, f .two))
 
 pub between-length : (c : List ℕ) → length (between c) ≡ pred (pred (length c))
 unfolding between

@@ -116,6 +116,16 @@ module _ (r : ℕ) (p : ℕ → ℕ) where
         (passes-on net v (p v) (walkBy r p k (p v)) i (walk-first k (p v) .0) (walk-first k (p v) .1) h′))
         h
 
+-- tables that agree below n have the same walks there
+pub walk-ext : (r n : ℕ) (p q : ℕ → ℕ) → ((x : ℕ) → x < n → p x ≡ q x) → ((x : ℕ) → x < n → x ≢ r → p x < n) → (k v : ℕ) → v < n → walkBy r p k v ≡ walkBy r q k v
+unfolding walkBy
+walk-ext r n p q e inside zero v l = refl
+walk-ext r n p q e inside (suc k) v l =
+    ⊎-elim
+    (λ (t : v ≡ r). rw (eq-eqb v r t))
+    (λ d. rw (ne-eqb v r d) (ap (λ (w : List ℕ). v ∷ w) (walk-ext r n p q e inside k (p v) (inside v l d) ∙ ap (walkBy r q k) (e v l))))
+    (same? v r)
+
 -- two walks from v whose switches meet only at the ends, and whose first links are not both v's link to the root, share no link
 apart : (net : Network) (v : ℕ) (p q : ℕ → ℕ) (P Q : ℕ → Type 0)
     → P v → ((x : ℕ) → P x → x ≢ net .root → P (p x))

@@ -20,38 +20,25 @@ use Rattle.mondschein.proofs.Lists.{at-same, holds-in, in-holds}
 use Rattle.mondschein.proofs.Checks.{Passed}
 use Rattle.mondschein.proofs.Births.{Passing, accepted-passing, accepted-prefix, later-passed, next-passed, later, born-at, at-born, take-born, born-snoc, birth-old, birth-birth}
 use Rattle.mondschein.proofs.Order.{position-at, fromA-rule, extend-rule, extend-short}
-use Rattle.mondschein.proofs.Growth.{order-suc, order-one, order-snoc, Grown, grown, later-fits, root-held, parent1-old, parent2-old}
+use Rattle.mondschein.proofs.Growth.{order-suc, order-one, order-snoc, grown, whole-grown, order-full, order-sound, order-simple, order-some, later-fits, root-held, parent2-first, parent1-old, parent2-old}
 use Rattle.mondschein.proofs.Routes.{by-tree}
-use Rattle.mondschein.proofs.Trees.{all-born, third-rule, third-lowest, first-up, before, after, closed-routes}
+use Rattle.mondschein.proofs.Trees.{all-born, third-rule, third-lowest, before, after, closed-routes}
 use Rattle.mondschein.proofs.Complete.{complete, complete-used}
 
 module _ (net : Network) (es : Ears) (acc : Passing net es) where
-  -- the order of the whole list
-  whole : Grown net es acc (length es)
-  whole = grown net es acc (length es) (omega arith)
-
-  pub order-full : (x : ℕ) → born es x ≡ true → holds (order es) x ≡ true
-  order-full x h = subst (λ (z : Ears). born z x ≡ true → holds (order z) x ≡ true) (take-length es) (whole .full x) h
-
-  pub order-sound : (x : ℕ) → holds (order es) x ≡ true → born es x ≡ true
-  order-sound x h = subst (λ (z : Ears). holds (order z) x ≡ true → born z x ≡ true) (take-length es) (whole .sound x) h
-
-  pub order-simple : Simple (order es)
-  order-simple = subst (λ (z : Ears). Simple (order z)) (take-length es) (whole .simple)
-
   order-rules : 0 < length es → OrderRules net es
   order-rules l =
       record {
         starts = order-one net es acc l;
         inserts = inserts;
         begins =
-            at-same (order es) 0 (position (order es) (net .root)) (sym (subst (λ (z : Ears). position (order z) (net .root) ≡ 0) (take-length es) (whole .rooted l)))
-            ∙ position-at (order es) (net .root) (order-full (net .root) (at-born es (net .root) 0 l (root-held net es acc l))) .1;
-        ends = subst (λ (z : Ears). at (order z) (pred (length (order z))) ≡ net .first) (take-length es) (whole .ended l);
-        once = order-simple;
+            at-same (order es) 0 (position (order es) (net .root)) (sym (subst (λ (z : Ears). position (order z) (net .root) ≡ 0) (take-length es) (whole-grown net es acc .rooted l)))
+            ∙ position-at (order es) (net .root) (order-full net es acc (net .root) (at-born es (net .root) 0 l (root-held net es acc l))) .1;
+        ends = subst (λ (z : Ears). at (order z) (pred (length (order z))) ≡ net .first) (take-length es) (whole-grown net es acc .ended l);
+        once = order-simple net es acc;
         holdsBorn = λ x. (
-          λ h. let (i, b, o) = born-at es x (order-sound x (in-holds (order es) x h)) in (i, b, holds-in (earAt es i) x o),
-          λ (i, b, o). holds-in (order es) x (order-full x (at-born es x i b (in-holds (earAt es i) x o))),
+          λ h. let (i, b, o) = born-at es x (order-sound net es acc x (in-holds (order es) x h)) in (i, b, holds-in (earAt es i) x o),
+          λ (i, b, o). holds-in (order es) x (order-full net es acc x (at-born es x i b (in-holds (earAt es i) x o))),
         );
       }
     where
@@ -72,10 +59,10 @@ module _ (net : Network) (proper : Proper net) (es : Ears) (acc : Passing net es
   unfolding parentOf
   table-rules =
       record {
-        root = λ t m. closed-routes net proper es acc done (parentOf net es) refl refl (third-rule net proper es acc done) .trees t m .rooted;
+        root = λ t m. closed-routes net proper es acc done (parentOf net es) (λ v. refl) (λ v. refl) (third-rule net proper es acc done) .trees t m .rooted;
         tree1 = λ v m d. let b = birth-birth es v (all-born net proper es acc done v m) in (birth es v, course es (birth es v), b, course-rule (birth es v) (b .below), before net proper es acc done v m d);
         tree2 = λ v m d f. let b = birth-birth es v (all-born net proper es acc done v m) in (birth es v, course es (birth es v), b, course-rule (birth es v) (b .below), after net proper es acc done v m d f);
-        first2 = first-up net proper es acc done (net .first) (λ z. proper .distinct .0 (sym z)) refl;
+        first2 = parent2-first net es (net .first) (λ z. proper .distinct .0 (sym z)) refl;
         tree3 = third-rule net proper es acc done;
         lowest3 = λ v m d f. third-lowest net proper es acc done v d f;
       }
@@ -93,16 +80,11 @@ short-born net es e p s v h =
 pub short-ear : ShortEar
 short-ear net es e l a s =
     let acc = accepted-passing net es (accepted-prefix net es (e ∷ []) a) in
-    let p = later net es l (next-passed net es e [] (accepted-passing net (es ++ (e ∷ [])) a)) in
-    let o = position-at (order es) (net .root) (order-full net es acc (net .root) (at-born es (net .root) 0 l (root-held net es acc l))) .0 in (
-      order-snoc es e ∙ extend-short (order es) e (omega arith) s,
+    let p = later net es l (next-passed net es e [] (accepted-passing net (es ++ (e ∷ [])) a)) in (
+      order-snoc es e ∙ extend-short (order es) e (order-some net es acc l) s,
       λ v. born-snoc es e v ∙ ⊎-elim (λ t. ap (λ (b : Bool). b || holds e v) t ∙ sym t) (λ f. ap (λ (b : Bool). b || holds e v) f ∙ ⊎-elim (λ t. clash (short-born net es e p s v t) f) (λ g. g ∙ sym f) (which (holds e v))) (which (born es v)),
       λ v h. (birth-old es e v h, parent1-old es e net v h, parent2-old es e net v h),
     )
 
 pub any-third : AnyThird
-unfolding parentOf
-any-third net es proper M p t = (
-  _,
-  closed-routes net proper es (complete net proper es M) (complete-used net proper es M) (λ t v. cond (eqb t 3) (p v) (parentOf net es t v)) refl refl t,
-)
+any-third net es proper M p e₁ e₂ e₃ = (_, closed-routes net proper es (complete net proper es M) (complete-used net proper es M) p e₁ e₂ e₃)

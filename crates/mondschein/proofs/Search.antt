@@ -166,6 +166,18 @@ pub count-skip : (p : ℕ → Bool) (n : ℕ) → p n ≡ false → count p (suc
 unfolding count
 count-skip p n f = rw f
 
+pub count-hit : (p : ℕ → Bool) (n : ℕ) → p n ≡ true → count p (suc n) ≡ suc (count p n)
+unfolding count
+count-hit p n t = rw t
+
+pub count-more : (p : ℕ → Bool) (m n : ℕ) → m ≤ n → count p m ≤ count p n
+count-more p m zero l = rw (let z : m ≡ 0 = omega arith in z) (omega arith)
+count-more p m (suc n) l =
+    ⊎-elim
+    (λ (k : m < suc n). ⊎-elim (λ t. omega (arith, count-hit p n t, count-more p m n (omega arith))) (λ f. omega (arith, count-skip p n f, count-more p m n (omega arith))) (which (p n)))
+    (λ (k : suc n ≤ m). rw (let z : m ≡ suc n = omega arith in z) (omega arith))
+    (less? m (suc n))
+
 -- counting from the other end
 pub count-shift : (p : ℕ → Bool) (n : ℕ) → count p (suc n) ≡ cond (p 0) 1 0 + count (λ k. p (suc k)) n
 unfolding count

@@ -16,8 +16,8 @@ use Rattle.mondschein.proofs.Search.{true-any}
 use Rattle.mondschein.proofs.Lists.{at-same, holds-in, in-holds}
 use Rattle.mondschein.proofs.Links.{cases-joins, joined-adjacent, adjacent-joined, joined-sym, passes-along, along-passes, passes-held, trail-held, link-unique}
 use Rattle.mondschein.proofs.Checks.{Passed}
-use Rattle.mondschein.proofs.Births.{Passing, first-passed, later-passed, ear-two, earlier, born-at, born-take, take-born, birth-is, birth-lt, birth-birth}
-use Rattle.mondschein.proofs.Trees.{user, some-ear, last-born, birth-isNew, all-born, last-apart}
+use Rattle.mondschein.proofs.Births.{Passing, first-passed, later-passed, ear-two, earlier, born-at, born-take, take-born, birth-is, birth-lt, birth-isNew, birth-birth}
+use Rattle.mondschein.proofs.Trees.{user, some-ear, last-born, all-born, last-apart}
 use Rattle.mondschein.proofs.Inner.{where?, NewAt, inner-new, new-long, inner-birth}
 
 module _ (net : Network) (proper : Proper net) (P : Ears) (acc : Passing net P) (done : (l : ℕ) → l < size net → used net P l ≡ true) where
@@ -68,7 +68,7 @@ module _ (net : Network) (proper : Proper net) (P : Ears) (acc : Passing net P) 
   u-held = birth-is P (net .last) .hit u-below
 
   u-new : NewAt P u (net .last)
-  u-new = let (k, l, q) = holds-in (earAt P u) (net .last) u-held in (k, l, birth-isNew net proper P acc done (net .last) k (last-born net proper P acc done) l q, q)
+  u-new = let (k, l, q) = holds-in (earAt P u) (net .last) u-held in (k, l, birth-isNew net P acc (net .last) k (last-born net proper P acc done) l q, q)
 
   u-only : (j : ℕ) → j < length (earAt P u) → isNew (eqb u 0) (length (earAt P u)) j ≡ true → j ≡ u-new .0
   u-only = (acc u u-below) .alone (u-new .0) (u-new .1) (u-new .2) (u-new .3) .0

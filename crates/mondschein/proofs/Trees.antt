@@ -18,9 +18,9 @@ use Rattle.mondschein.proofs.Search.{low-is, low-found, any-true}
 use Rattle.mondschein.proofs.Lists.{at-same, holds-in, holds-at, holds-by}
 use Rattle.mondschein.proofs.Links.{joined-adjacent, adjacent-joined, joined-sym, passes-held, trail-held}
 use Rattle.mondschein.proofs.Checks.{Passed}
-use Rattle.mondschein.proofs.Births.{Passing, first-passed, later-passed, ear-two, at-born, born-take, take-born, birth-is, birth-le, birth-lt, birth-birth, birth-unique}
+use Rattle.mondschein.proofs.Births.{Passing, first-passed, later-passed, ear-two, at-born, born-take, take-born, birth-le, birth-lt, birth-held, not-before, birth-isNew, birth-birth, birth-unique}
 use Rattle.mondschein.proofs.Order.{position-at, turned-fits, turned-on, turned-back}
-use Rattle.mondschein.proofs.Growth.{grown, course-turned, later-fits, root-held}
+use Rattle.mondschein.proofs.Growth.{grown, course-turned, later-fits, root-held, parent1-root, parent2-root, parent2-first}
 use Rattle.mondschein.proofs.Routes.{by-tree, Numbered, three-routes}
 
 module _ (net : Network) (proper : Proper net) (es : Ears) (acc : Passing net es) (done : (l : ℕ) → l < size net → used net es l ≡ true) where
@@ -39,36 +39,12 @@ module _ (net : Network) (proper : Proper net) (es : Ears) (acc : Passing net es
       let (i, h, t) = user l m in
       at-born es (net .last) i h (trail-held (eqb i 0) (earAt es i) (net .last) (omega (arith, ear-two net es acc i h)) (passes-held net _ l (net .root) (net .last) t q .1))
 
-  pub not-before : (x : ℕ) → born (take (birth es x) es) x ≡ true → ⊥
-  not-before x h = let (j, a, b, q) = born-take es (birth es x) x h in clash q (birth-is es x .before j a)
-
-  birth-held : (x : ℕ) → born es x ≡ true → holds (earAt es (birth es x)) x ≡ true
-  birth-held x h = birth-is es x .hit (birth-lt es x h)
-
-  -- in its birth ear a switch is new
-  pub birth-isNew : (x k : ℕ) → born es x ≡ true → k < length (earAt es (birth es x)) → at (earAt es (birth es x)) k ≡ x → isNew (eqb (birth es x) 0) (length (earAt es (birth es x))) k ≡ true
-  unfolding isNew
-  birth-isNew x k h l q = go (birth es x) (birth-lt es x h) (not-before x) l q
-    where
-      go : (i : ℕ) → i < length es → (born (take i es) x ≡ true → ⊥) → k < length (earAt es i) → at (earAt es i) k ≡ x → isNew (eqb i 0) (length (earAt es i)) k ≡ true
-      go zero b u l q = refl
-      go (suc i) b u l q =
-          let e = earAt es (suc i) in
-          let p = later-passed net es acc i b in
-          rw (ne-eqb (suc i) 0 (omega arith))
-          (true-and (ltb 0 k) _
-          (⊎-elim (λ m. lt-ltb 0 k m) (λ (m : k ≤ 0). absurd (u (ap (born (take (suc i) es)) (sym q ∙ at-same e k 0 (omega arith)) ∙ p .ends refl .0))) (less? 0 k))
-          (⊎-elim
-          (λ m. lt-ltb (suc k) (length e) m)
-          (λ (m : length e ≤ suc k). absurd (u (ap (born (take (suc i) es)) (sym q ∙ at-same e k (pred (length e)) (omega arith)) ∙ p .ends refl .1)))
-          (less? (suc k) (length e))))
-
   pub all-born : (x : ℕ) → x < net .n → born es x ≡ true
   all-born x m =
       let i = birth es (net .last) in
       let b = birth-lt es (net .last) last-born in
-      let (k, l, q) = holds-in (earAt es i) (net .last) (birth-held (net .last) last-born) in
-      let a = (acc i b) .alone k l (birth-isNew (net .last) k last-born l q) q in
+      let (k, l, q) = holds-in (earAt es i) (net .last) (birth-held es (net .last) last-born) in
+      let a = (acc i b) .alone k l (birth-isNew net es acc (net .last) k last-born l q) q in
       ⊎-elim
       (λ e. subst (λ (y : ℕ). born es y ≡ true) (sym e) last-born)
       (λ d.
@@ -137,10 +113,10 @@ module _ (net : Network) (proper : Proper net) (es : Ears) (acc : Passing net es
       b = birth-lt es x (all-born x m)
 
       h : (spot x < length (way x)) × (at (way x) (spot x) ≡ x)
-      h = position-at (way x) x (turned-on (earAt es (birth es x)) (way x) (course-turned net es acc (birth es x)) x (birth-held x (all-born x m)))
+      h = position-at (way x) x (turned-on (earAt es (birth es x)) (way x) (course-turned net es acc (birth es x)) x (birth-held es x (all-born x m)))
 
       old : (k : ℕ) → spot x ≡ k → born (take (birth es x) es) (at (way x) k) ≡ true → ⊥
-      old k q t = not-before x (ap (born (take (birth es x) es)) (sym (h .1) ∙ at-same (way x) _ _ q) ∙ t)
+      old k q t = not-before es x (ap (born (take (birth es x) es)) (sym (h .1) ∙ at-same (way x) _ _ q) ∙ t)
 
       lower : 0 < spot x
       lower =
@@ -200,24 +176,20 @@ module _ (net : Network) (proper : Proper net) (es : Ears) (acc : Passing net es
       (subst (λ (a : ℕ). Next (birth es x) a (at (way x) (suc (spot x)))) (st .here)
       (next (birth es x) (spot x) (st .bounds) (⊎-elim (λ e. absurd (f e)) (λ l. l) (st .before))))
 
-  pub first-up : (x : ℕ) → x ≢ net .root → x ≡ net .first → parent2 net es x ≡ net .root
-  unfolding parent2
-  first-up x d f = rw (ne-eqb x (net .root) d, eq-eqb x (net .first) f)
-
   later-neighbour : (x : ℕ) → x < net .n → x ≢ net .last → (y : ℕ) × (y < net .n) × (joined net x y ≡ true) × (birth es x < birth es y)
   later-neighbour x m f =
       let i = birth es x in
       let b = birth-lt es x (all-born x m) in
-      let (k, l, q) = holds-in (earAt es i) x (birth-held x (all-born x m)) in
-      let (y, a, j, u, v) = (acc i b) .neighbour k l (birth-isNew x k (all-born x m) l q) (λ z. f (sym q ∙ z)) in (
+      let (k, l, q) = holds-in (earAt es i) x (birth-held es x (all-born x m)) in
+      let (y, a, j, u, v) = (acc i b) .neighbour k l (birth-isNew net es acc x k (all-born x m) l q) (λ z. f (sym q ∙ z)) in (
         y,
         a,
         subst (λ (z : ℕ). joined net z y ≡ true) q j,
         ⊎-elim
             (λ (h : birth es x < birth es y). h)
             (⊎-elim
-            (λ (h : birth es y < birth es x). clash (take-born es i y (birth es y) h (omega arith) (birth-held y (all-born y a))) u)
-            (λ (h : birth es x ≡ birth es y). clash (subst (λ (z : ℕ). holds (earAt es z) y ≡ true) (sym h) (birth-held y (all-born y a))) v))
+            (λ (h : birth es y < birth es x). clash (take-born es i y (birth es y) h (omega arith) (birth-held es y (all-born y a))) u)
+            (λ (h : birth es x ≡ birth es y). clash (subst (λ (z : ℕ). holds (earAt es z) y ≡ true) (sym h) (birth-held es y (all-born y a))) v))
             (trichotomy (birth es x) (birth es y)),
       )
 
@@ -265,10 +237,6 @@ module _ (net : Network) (proper : Proper net) (es : Ears) (acc : Passing net es
       let p = first-passed net es acc some-ear in
       omega (arith, birth-le es (net .first) 0 some-ear (holds-by (earAt es 0) _ _ (let l : pred (length (earAt es 0)) < length (earAt es 0) = omega (arith, p .long) in l) (p .cycle refl .1)))
 
-  stays : (b : Bool) → b ≡ true → (x y : ℕ) → cond b x y ≡ x
-  stays true e x y = refl
-  stays false e x y = clash e refl
-
   root-place : s (net .root) ≡ 0
   root-place = subst (λ (z : Ears). position (order z) (net .root) ≡ 0) (take-length es) (grown net es acc (length es) (omega arith) .rooted some-ear)
 
@@ -276,7 +244,7 @@ module _ (net : Network) (proper : Proper net) (es : Ears) (acc : Passing net es
   second x m d =
       ⊎-elim
       (λ (f : x ≡ net .first).
-      rw (first-up x d f)
+      rw (parent2-first net es x d f)
       (proper .named .0, subst (λ (z : ℕ). joined net z (net .root) ≡ true) (sym f) (joined-sym net _ _ (adjacent-joined net _ _ (proper .rootFirst))), omega (arith, root-birth)))
       (λ f. let u = upward x m d f in (u .below-z, u .link-az, u .old-z))
       (same? x (net .first))
@@ -303,8 +271,8 @@ module _ (net : Network) (proper : Proper net) (es : Ears) (acc : Passing net es
       let i = birth es (net .last) in
       let e = earAt es i in
       let b = birth-lt es (net .last) last-born in
-      let (k, l, q) = holds-in e (net .last) (birth-held (net .last) last-born) in
-      let (only, rest, u, v) = (acc i b) .alone k l (birth-isNew (net .last) k last-born l q) q in
+      let (k, l, q) = holds-in e (net .last) (birth-held es (net .last) last-born) in
+      let (only, rest, u, v) = (acc i b) .alone k l (birth-isNew net es acc (net .last) k last-born l q) q in
       let (j, m, r) = holds-in e (net .root) h in
       ⊎-elim
       (λ t. proper .distinct .1 (sym r ∙ at-same e j k (only j m t) ∙ q))
@@ -326,30 +294,30 @@ module _ (net : Network) (proper : Proper net) (es : Ears) (acc : Passing net es
       let st = stands x m d in
       (spot x, ⊎-elim (λ e. absurd (f e)) (λ l. l) (st .before), st .here, rw (ne-eqb x (net .root) d, ne-eqb x (net .first) f))
 
-  module _ (p : ℕ → ℕ → ℕ) (e₁ : p 1 ≡ parent1 net es) (e₂ : p 2 ≡ parent2 net es) (e₃ : Third net es (p 3)) where
+  module _ (p : ℕ → ℕ → ℕ) (e₁ : (v : ℕ) → p 1 v ≡ parent1 net es v) (e₂ : (v : ℕ) → p 2 v ≡ parent2 net es v) (e₃ : Third net es (p 3)) where
     third-cases : (x : ℕ) → x < net .n → x ≢ net .root → ((x ≡ net .last) × (p 3 x ≡ net .root)) ⊎ LaterBorn net es x (p 3 x)
     third-cases x m d = ⊎-elim (λ f. inl (f, ap (p 3) f ∙ e₃ .last)) (λ f. inr (e₃ .other x m d f)) (same? x (net .last))
 
     numbered : Numbered net (birth es) s p
-    unfolding parent1 parent2 position
+    unfolding position
     numbered =
         record {
           proper = proper;
           fixed =
               by-tree (λ t. p t (net .root) ≡ net .root)
-              (rw e₁ (stays _ (eq-eqb (net .root) (net .root) refl) _ _)) (rw e₂ (stays _ (eq-eqb (net .root) (net .root) refl) _ _)) (e₃ .root);
+              (rw (e₁ (net .root)) (parent1-root net es (net .root) refl)) (rw (e₂ (net .root)) (parent2-root net es (net .root) refl)) (e₃ .root);
           linked =
               by-tree (λ t. (x : ℕ) → x < net .n → x ≢ net .root → Adjacent net x (p t x))
-              (λ x m d. rw e₁ (joined-adjacent net x _ (joined-sym net _ x (down x m d .link-az))))
-              (λ x m d. rw e₂ (joined-adjacent net x _ (second x m d .1)))
+              (λ x m d. rw (e₁ x) (joined-adjacent net x _ (joined-sym net _ x (down x m d .link-az))))
+              (λ x m d. rw (e₂ x) (joined-adjacent net x _ (second x m d .1)))
               (λ x m d. ⊎-elim
               (λ (f, z). rw z (subst (λ (y : ℕ). Adjacent net y (net .root)) (sym f) (joined-adjacent net _ _ (joined-sym net _ _ (adjacent-joined net _ _ (proper .rootLast))))))
               (λ h. h .adjacent)
               (third-cases x m d));
-          back = λ x m d. rw e₁ (down x m d .up-az);
-          onward = λ x m d. rw e₂ (⊎-elim (λ f. inl (f, first-up x d f)) (λ f. inr (upward x m d f .up-az)) (same? x (net .first)));
-          older₁ = λ x m d. rw e₁ (down x m d .old-a);
-          older₂ = λ x m d. rw e₂ (second x m d .2);
+          back = λ x m d. rw (e₁ x) (down x m d .up-az);
+          onward = λ x m d. rw (e₂ x) (⊎-elim (λ f. inl (f, parent2-first net es x d f)) (λ f. inr (upward x m d f .up-az)) (same? x (net .first)));
+          older₁ = λ x m d. rw (e₁ x) (down x m d .old-a);
+          older₂ = λ x m d. rw (e₂ x) (second x m d .2);
           later = λ x m d. ⊎-elim inl (λ h. inr (born-later x _ h)) (third-cases x m d);
           s-root = root-place;
           b-root = root-birth;
@@ -358,10 +326,10 @@ module _ (net : Network) (proper : Proper net) (es : Ears) (acc : Passing net es
           b-limit = λ x m. omega (arith, birth-lt es x (all-born x m));
           first-inner = λ z.
               let (k, l, q, r) = before (net .first) (proper .named .1) (λ h. proper .distinct .0 (sym h)) in
-              first-inner (birth es (net .first)) first-birth k l (q ∙ (rw e₁ at z)) r;
+              first-inner (birth es (net .first)) first-birth k l (q ∙ (sym (e₁ _) ∙ z)) r;
           last-inner = λ z.
               let (k, l, q, r) = before (net .last) (proper .named .2) (λ h. proper .distinct .1 (sym h)) in
-              last-apart (subst (λ (y : ℕ). holds (earAt es (birth es (net .last))) y ≡ true) (q ∙ (rw e₁ at z)) (course-held (birth es (net .last)) k (omega arith)));
+              last-apart (subst (λ (y : ℕ). holds (earAt es (birth es (net .last))) y ≡ true) (q ∙ (sym (e₁ _) ∙ z)) (course-held (birth es (net .last)) k (omega arith)));
         }
 
     pub closed-routes : ThreeRoutes net p (λ t v. walkBy (net .root) (p t) (pred (net .n)) v)

@@ -2,14 +2,13 @@
 -- proofs/Demand1.antt, Demand2.antt and Demand3.antt show them of the machine of document 01.
 use mathlib.Core.Path.{_≡_}
 use mathlib.Core.Logic.{_⊎_, _↔_}
-use mathlib.Core.Bool.{true, cond}
+use mathlib.Core.Bool.{true}
 use mathlib.Core.List.{List, [], _∷_, _++_, reverse, map}
 use Prim.Native.Nat.{ℕ, _≤_, _<_}
-use lib.Dec.{eqb}
 use lib.ListN.{length, drop}
 use Rattle.mondschein.specs.Network.{Network, In, size, Proper, Ears, born, birth, newSwitches}
 use Rattle.mondschein.specs.Judge.{Answer, given, refused, Accepted}
-use Rattle.mondschein.specs.Order.{order, parent1, parent2, parentOf}
+use Rattle.mondschein.specs.Order.{order, parent1, parent2}
 use Rattle.mondschein.specs.Machine.{State, empty, opened, closed, Call, load, ear, close, clear, Outcome, orderOf, Program, machine, history, session}
 use Rattle.mondschein.specs.Mondschein.{Contains, Mondschein}
 use Rattle.mondschein.specs.Routes.{Tree, ThreeRoutes, OrderRules, Third, TableRules}
@@ -45,8 +44,8 @@ ShortEar =
 -- three routes with any choice of later-born neighbours as tree 3
 abbrev pub AnyThird : Type 0
 AnyThird =
-    (net : Network) (es : Ears) → Proper net → Mondschein net es → (p : ℕ → ℕ) → Third net es p
-    → (w : ℕ → ℕ → List ℕ) × ThreeRoutes net (λ t v. cond (eqb t 3) (p v) (parentOf net es t v)) w
+    (net : Network) (es : Ears) → Proper net → Mondschein net es → (p : ℕ → ℕ → ℕ) → ((v : ℕ) → p 1 v ≡ parent1 net es v) → ((v : ℕ) → p 2 v ≡ parent2 net es v)
+    → Third net es (p 3) → (w : ℕ → ℕ → List ℕ) × ThreeRoutes net p w
 
 module _ (prog : Program) where
   -- Demand 1, on any session and any arguments: a call gives its values, or one of its refusals, which leaves all as it was

@@ -6,7 +6,7 @@ use mathlib.Core.Bool.{Bool, true, false, not, _&&_, _||_, cond}
 use mathlib.Core.List.{List, [], _∷_, _++_}
 use Prim.Native.Nat.{ℕ, zero, suc, pred, _+_, _*_, _/_, _≤_, _<_}
 use lib.Dec.{eqb, ltb}
-use lib.ListN.{length, getD}
+use lib.ListN.{length, getD, take}
 
 -- the lowest k below n that passes p, or n where none does
 unfoldable pub low : (ℕ → Bool) → ℕ → ℕ
@@ -133,3 +133,11 @@ newCount false c = pred (pred c)
 -- the number of switches that e holds and no ear of es holds
 unfoldable pub newSwitches : Network → Ears → List ℕ → ℕ
 newSwitches net es e = count (λ x. holds e x && not (born es x)) (net .n)
+
+-- how many long ears there are; an ear of two numbers is short, every other is long
+unfoldable pub longEars : Ears → ℕ
+longEars es = count (λ i. not (eqb (length (earAt es i)) 2)) (length es)
+
+-- birth numbered by long ears from 1, and 0 for the unborn
+unfoldable pub longBirth : Ears → ℕ → ℕ
+longBirth es x = cond (born es x) (longEars (take (suc (birth es x)) es)) 0

@@ -37,9 +37,7 @@ course es (suc i) = fromA (order (take (suc i) es)) (earAt es (suc i))
 
 -- tree 1: the neighbour along the birth ear towards A
 unfoldable pub parent1 : Network → Ears → ℕ → ℕ
-parent1 net es v =
-    let c = course es (birth es v) in
-    cond (eqb v (net .root)) v (at c (pred (position c v)))
+parent1 net es v = let c = course es (birth es v) in cond (eqb v (net .root)) v (at c (pred (position c v)))
 
 -- tree 2: the neighbour towards B; first has parent root
 unfoldable pub parent2 : Network → Ears → ℕ → ℕ
