@@ -1,7 +1,7 @@
 -- Laws of births and used links along a list of ears: what is born or used before an ear, where a switch is born, what one more ear
 -- does, and that a list is accepted exactly when each of its ears passes.
 use mathlib.Core.Path.{_≡_, refl, sym, ap, ap₂, _∙_, subst}
-use mathlib.Core.Logic.{_⊎_, inl, inr, ⊎-elim}
+use mathlib.Core.Logic.{⊎-elim}
 use mathlib.Core.Bool.{Bool, true, false, _||_}
 use mathlib.Core.List.{List, [], _∷_, _++_}
 use Prim.Native.Nat.{ℕ, zero, suc, pred, _≤_, _<_}
@@ -11,13 +11,13 @@ use lib.Dec.{eqb}
 use lib.ListN.{length, take, length-take, length-append, List·getD-append}
 use lib.Seq.{getD-take, getD-at, length-take-le, take-append-le, take-at}
 use borrow.Author.Tests.{ne-eqb}
-use Rattle.mondschein.specs.Network.{low, any, Network, at, In, holds, passes, Ears, earAt, born, birth, trail, used, isNew, newCount}
-use Rattle.mondschein.specs.Judge.{Answer, given, verdict, judge, Accepted}
-use Rattle.mondschein.specs.Mondschein.{Before, Birth}
+use Rattle.mondschein.specs.Network.{any, Network, at, holds, passes, Ears, earAt, born, birth, trail, used, isNew}
+use Rattle.mondschein.specs.Judge.{given, verdict, judge, Accepted}
+use Rattle.mondschein.specs.Mondschein.{Birth}
 use Rattle.mondschein.proofs.Logic.{which, clash, less?}
 use Rattle.mondschein.proofs.Search.{IsLow, low-is, low-eq, low-none, any-true, any-false, true-any, any-suc, any-ext}
 use Rattle.mondschein.proofs.Lists.{at-same, holds-in, in-holds}
-use Rattle.mondschein.proofs.Checks.{end-new, Passed, given-passed, passed-given}
+use Rattle.mondschein.proofs.Checks.{end-new, Passed, given-passed}
 
 pub born-at : (es : Ears) (x : ℕ) → born es x ≡ true → (i : ℕ) × (i < length es) × (holds (earAt es i) x ≡ true)
 unfolding born
@@ -146,16 +146,6 @@ module _ (net : Network) (es : Ears) where
       let (k, q) = a i l in
       given-passed net (take i es) (eqb i 0) (earAt es i) (k ∷ [])
       (subst (λ (n : ℕ). verdict net (born (take i es)) (used net (take i es)) (eqb n 0) (earAt es i) ≡ given (k ∷ [])) (length-take-le i es (omega arith)) q)
-
-  -- the count that an accepted ear gives
-  pub passed-judged : Passing net es → (i : ℕ) → i < length es → judge net (take i es) (earAt es i) ≡ given (newCount (eqb i 0) (length (earAt es i)) ∷ [])
-  unfolding judge
-  passed-judged p i l =
-      subst (λ (n : ℕ). verdict net (born (take i es)) (used net (take i es)) (eqb n 0) (earAt es i) ≡ given (newCount (eqb i 0) (length (earAt es i)) ∷ []))
-      (sym (length-take-le i es (omega arith))) (passed-given net (take i es) (eqb i 0) (earAt es i) (p i l))
-
-  pub passing-accepted : Passing net es → Accepted net es
-  passing-accepted p i l = (newCount (eqb i 0) (length (earAt es i)), passed-judged p i l)
 
   module _ (acc : Passing net es) where
     pub first-passed : 0 < length es → Passed net [] true (earAt es 0)

@@ -1,16 +1,16 @@
 -- Bounds of an accepted list, for whatever stores it: its order has at most N switches, it has at most N long ears and M ears, and
 -- births numbered by long ears compare as births by ear do.
 use mathlib.Core.Path.{_≡_, refl, sym, ap, _∙_, subst}
-use mathlib.Core.Logic.{_⊎_, inl, inr, ⊎-elim, _≢_, _↔_}
-use mathlib.Core.Bool.{Bool, true, false, not, cond}
+use mathlib.Core.Logic.{⊎-elim, _↔_}
+use mathlib.Core.Bool.{Bool, true, false, not}
 use mathlib.Core.List.{List, []}
 use Prim.Native.Nat.{ℕ, zero, suc, _≤_, _<_}
 use native.Mathlib.Omega.{arith}
 use lib.Dec.{eqb}
 use lib.ListN.{length, take, length-take}
 use lib.Seq.{length-take-le}
-use borrow.Author.Tests.{eqb-true, eqb-false, ne-eqb, not-true}
-use Rattle.mondschein.specs.Network.{any, count, Network, at, In, holds, size, joins, passes, linkOf, Ears, earAt, born, birth, trail, used, longEars, longBirth}
+use borrow.Author.Tests.{eqb-false, ne-eqb, not-true}
+use Rattle.mondschein.specs.Network.{count, Network, at, holds, size, joins, passes, linkOf, Ears, earAt, born, birth, trail, used, longEars, longBirth}
 use Rattle.mondschein.specs.Order.{order}
 use Rattle.mondschein.proofs.Logic.{which, clash, less?, trichotomy}
 use Rattle.mondschein.proofs.Search.{true-any, pigeon, count-le, count-lt, count-bound, count-ext, count-skip, count-hit, count-more}

@@ -6,12 +6,12 @@ use mathlib.Core.Bool.{Bool, true, false, not, _&&_, _||_, cond}
 use mathlib.Core.List.{List, [], _∷_}
 use Prim.Native.Nat.{ℕ, suc, pred, _≤_, _<_}
 use native.Mathlib.Omega.{arith}
-use lib.Dec.{eqb, ltb, leb}
+use lib.Dec.{eqb, ltb}
 use lib.ListN.{length}
 use borrow.Author.Tests.{ltb-true, ltb-false, lt-ltb, le-ltb, leb-false, lt-leb, eqb-true, eqb-false, eq-eqb, ne-eqb, not-true, not-false}
 use Rattle.mondschein.specs.Network.{low, any, Network, at, Simple, holds, size, joined, linkOf, Ears, born, used, isNew, newCount}
 use Rattle.mondschein.specs.Judge.{Answer, given, refused, check, wrongLength, tooLarge, repeated, notJoined, usedAlready, wrongCycle, unbornEnd, bornBetween, otherNew, otherUnborn, rootEnd, lastEarly, noneUnborn, verdict, closing}
-use Rattle.mondschein.proofs.Logic.{which, clash, less?, trichotomy, and-true, true-and, or-false, and-false, false-and, false-or}
+use Rattle.mondschein.proofs.Logic.{clash, less?, trichotomy, and-true, true-and, or-false, and-false, false-and, false-or}
 use Rattle.mondschein.proofs.Search.{low-is, low-stop, low-none, low-ext, any-true, any-false, true-any, false-any, any-ext}
 use Rattle.mondschein.proofs.Links.{link-found}
 

@@ -1,6 +1,6 @@
 -- Completeness: every ear of a Mondschein sequence passes every check, and every link is used.
 -- `complete` gives the facts of the checks one by one.
-use mathlib.Core.Path.{_≡_, refl, sym, ap, ap₂, _∙_, subst}
+use mathlib.Core.Path.{_≡_, refl, sym, ap₂, _∙_, subst}
 use mathlib.Core.Logic.{_⊎_, inl, inr, ⊎-elim, _≢_}
 use mathlib.Core.Bool.{true, false, _||_, cond}
 use mathlib.Core.List.{List}
@@ -9,14 +9,14 @@ use native.Mathlib.Omega.{arith}
 use lib.Dec.{eqb}
 use lib.ListN.{length, take, length-take}
 use borrow.Author.Tests.{eqb-true, eqb-false, ne-eqb}
-use Rattle.mondschein.specs.Network.{any, Network, at, In, holds, size, Joins, Along, joins, joined, passes, linkOf, Proper, Ears, earAt, born, birth, trail, used, isNew}
-use Rattle.mondschein.specs.Mondschein.{On, Before, End, Inner, Long, Contains, EarDecomposition, Mondschein}
+use Rattle.mondschein.specs.Network.{Network, at, holds, size, joins, joined, passes, linkOf, Proper, Ears, earAt, born, birth, trail, used, isNew}
+use Rattle.mondschein.specs.Mondschein.{On, End, Inner, Long, Contains, EarDecomposition, Mondschein}
 use Rattle.mondschein.proofs.Logic.{which, clash, less?, trichotomy, or-left, true-or}
 use Rattle.mondschein.proofs.Search.{any-true, true-any}
 use Rattle.mondschein.proofs.Lists.{at-same, holds-in, in-holds, out-holds, simple-length}
-use Rattle.mondschein.proofs.Links.{joins-cases, cases-joins, joins-sym, adjacent-joined, passes-along, along-passes, trail-passes, link-found}
+use Rattle.mondschein.proofs.Links.{joins-cases, joins-sym, adjacent-joined, passes-along, along-passes, trail-passes, link-found}
 use Rattle.mondschein.proofs.Births.{Passing, earlier, born-take, take-born, birth-is, birth-le, birth-unique}
-use Rattle.mondschein.proofs.Inner.{where?, later-new, new-later, NewAt, inner-new, new-inner, new-long, inner-birth, birth-inner}
+use Rattle.mondschein.proofs.Inner.{where?, later-new, new-later, inner-new, new-inner, new-long, inner-birth, birth-inner}
 
 module _ (net : Network) (proper : Proper net) (P : Ears) (M : Mondschein net P) where
   abbrev D : EarDecomposition net P

@@ -1,16 +1,16 @@
 -- The number of new switches: what an accepted ear gives is the number of switches that it holds and no earlier ear holds.
 -- `judged` says so of the judge's answer.
-use mathlib.Core.Path.{_≡_, refl, sym, ap, _∙_, subst}
-use mathlib.Core.Logic.{_⊎_, ⊎-elim}
-use mathlib.Core.Bool.{Bool, true, false, not, _&&_, cond}
+use mathlib.Core.Path.{_≡_, refl, sym, ap, _∙_}
+use mathlib.Core.Logic.{⊎-elim}
+use mathlib.Core.Bool.{Bool, true, false, not}
 use mathlib.Core.List.{List, [], _∷_}
 use Prim.Native.Nat.{ℕ, zero, suc, pred, _≤_, _<_}
 use native.Mathlib.Omega.{arith}
 use lib.Dec.{eqb, ltb}
 use lib.ListN.{length}
 use borrow.Author.Tests.{lt-ltb, le-ltb, eqb-true}
-use Rattle.mondschein.specs.Network.{count, Network, at, holds, Ears, born, used, isNew, newCount, newSwitches}
-use Rattle.mondschein.specs.Judge.{Answer, given, verdict, judge}
+use Rattle.mondschein.specs.Network.{count, Network, at, Ears, born, isNew, newCount, newSwitches}
+use Rattle.mondschein.specs.Judge.{given, judge}
 use Rattle.mondschein.proofs.Logic.{which, true-and, false-and}
 use Rattle.mondschein.proofs.Search.{count-ext, count-shift, count-skip, count-all}
 use Rattle.mondschein.proofs.Lists.{at-same, count-list}

@@ -3,12 +3,12 @@
 use mathlib.Core.Path.{_≡_, refl, ap}
 use mathlib.Core.Logic.{_⊎_, inl, inr, ⊎-elim}
 use mathlib.Core.Bool.{cond}
-use mathlib.Core.List.{List, [], _∷_, _++_}
-use Prim.Native.Nat.{ℕ, pred, _<_}
+use mathlib.Core.List.{List, [], _∷_}
+use Prim.Native.Nat.{ℕ, _<_}
 use native.Mathlib.Omega.{arith}
 use lib.ListN.{length}
 use Rattle.mondschein.specs.Network.{Network, In, Ears, used}
-use Rattle.mondschein.specs.Judge.{Answer, given, refused, check, loading, verdict, judge, closing}
+use Rattle.mondschein.specs.Judge.{Answer, given, refused, loading, verdict, judge, closing}
 use Rattle.mondschein.specs.Machine.{State, empty, opened, closed, Call, load, ear, close, clear, granted, Outcome, settle, step, parentCall, walkCall, machine}
 use Rattle.mondschein.specs.Demands.{values, Refusal, Demand1}
 use Rattle.mondschein.proofs.Checks.{check-either}

@@ -1,18 +1,17 @@
 -- Demand 2 of the machine: after any list of calls it accepts and closes exactly the Mondschein sequences, counts new switches, and
 -- gives document 01's tables; and the plain form, of one list offered to a fresh session.
-use mathlib.Core.Path.{_≡_, refl, sym, ap, _∙_, subst}
-use mathlib.Core.Logic.{_⊎_, inl, inr, ⊎-elim, _↔_}
-use mathlib.Core.Bool.{Bool, true, false, not, cond}
+use mathlib.Core.Path.{_≡_, sym, ap, _∙_, subst}
+use mathlib.Core.Logic.{_↔_}
+use mathlib.Core.Bool.{true, false, not, cond}
 use mathlib.Core.List.{List, [], _∷_, _++_, foldl, map, append-assoc, append-nil}
 use Prim.Native.Nat.{ℕ, _<_}
-use native.Mathlib.Omega.{arith}
 use lib.Dec.{eqb}
 use lib.ListN.{length}
 use borrow.Author.Tests.{lt-leb, le-ltb, not-true, not-false}
-use Rattle.mondschein.specs.Network.{any, Network, size, passes, Proper, Ears, earAt, trail, used, newSwitches}
-use Rattle.mondschein.specs.Judge.{Answer, given, refused, check, loading, judge, closing}
+use Rattle.mondschein.specs.Network.{Network, size, passes, Proper, Ears, earAt, trail, used, newSwitches}
+use Rattle.mondschein.specs.Judge.{Answer, given, judge, closing}
 use Rattle.mondschein.specs.Order.{parentOf}
-use Rattle.mondschein.specs.Machine.{State, empty, opened, closed, Call, load, ear, close, clear, granted, Outcome, settle, step, unknown, parentCall, orderOf, machine, history, session}
+use Rattle.mondschein.specs.Machine.{State, empty, opened, closed, load, ear, close, granted, settle, step, unknown, parentCall, orderOf, machine}
 use Rattle.mondschein.specs.Mondschein.{Contains, Mondschein}
 use Rattle.mondschein.specs.Routes.{Tree}
 use Rattle.mondschein.specs.Demands.{Entries, Judges, Demand2, Plain}

@@ -1,19 +1,12 @@
 -- Demand 3 of the machine: closed after any list of calls, its parent and walk calls give three routes.
 -- `written` says what a walk call on a closed state writes.
-use mathlib.Core.Path.{_≡_, refl, sym, ap, _∙_, subst}
-use mathlib.Core.Logic.{_⊎_, ⊎-elim}
-use mathlib.Core.Bool.{Bool, true, false, cond}
-use mathlib.Core.List.{List, [], _∷_, _++_}
-use Prim.Native.Nat.{ℕ, _≤_, _<_}
-use native.Mathlib.Omega.{arith}
-use lib.Dec.{ltb}
+use mathlib.Core.Path.{refl, sym, ap, _∙_, subst}
+use mathlib.Core.List.{_++_}
 use lib.ListN.{length, drop}
 use borrow.Author.Tests.{lt-ltb, le-ltb}
 use Rattle.mondschein.specs.Network.{Network, Ears}
-use Rattle.mondschein.specs.Judge.{Answer, given, refused, check}
-use Rattle.mondschein.specs.Order.{parentOf, walkBy, walkOf}
-use Rattle.mondschein.specs.Machine.{State, closed, granted, Outcome, settle, unknown, walkCall, machine}
-use Rattle.mondschein.specs.Routes.{ThreeRoutes}
+use Rattle.mondschein.specs.Order.{parentOf, walkOf}
+use Rattle.mondschein.specs.Machine.{State, closed, granted, settle, walkCall, machine}
 use Rattle.mondschein.specs.Demands.{Entries, Writes, Demand3}
 use Rattle.mondschein.proofs.Checks.{check-pass, check-fail}
 use Rattle.mondschein.proofs.Births.{accepted-passing}

@@ -1,26 +1,26 @@
 -- A later ear may be written from either end: it is accepted alike, with the same count, and two lists that differ in such a writing
 -- have the same births, used links, order and tables, now and after any further calls.
 use mathlib.Core.Path.{_≡_, refl, sym, ap, ap₂, _∙_, subst}
-use mathlib.Core.Logic.{_⊎_, inl, inr, ⊎-elim, _≢_}
+use mathlib.Core.Logic.{⊎-elim, _≢_}
 use mathlib.Core.Bool.{Bool, true, false, not, _&&_, _||_, cond}
 use mathlib.Core.List.{List, [], _∷_, _++_, reverse, foldl, foldl-append}
-use Prim.Native.Nat.{ℕ, zero, suc, pred, _-_, _≤_, _<_}
+use Prim.Native.Nat.{ℕ, suc, pred, _-_, _<_}
 use native.Mathlib.Omega.{arith}
 use lib.Dec.{eqb, ltb, leb}
 use lib.ListN.{length, drop, length-append}
 use lib.ListN as L
-use borrow.Author.Tests.{eq-eqb, ne-eqb, leb-false, ltb-false}
-use Rattle.mondschein.specs.Network.{low, Network, at, In, Simple, holds, size, joined, passes, linkOf, Proper, Ears, born, birth, trail, used, isNew, newSwitches}
-use Rattle.mondschein.specs.Judge.{Answer, given, refused, check, verdict, judge, closing}
-use Rattle.mondschein.specs.Order.{position, fromA, between, extend, order, parent1, parent2, parent3By, parentOf, walkBy, walkOf}
-use Rattle.mondschein.specs.Machine.{State, empty, opened, closed, Call, load, ear, close, clear, granted, Outcome, settle, step, unknown, parentCall, walkCall, orderOf, machine, session}
+use borrow.Author.Tests.{ne-eqb, leb-false, ltb-false}
+use Rattle.mondschein.specs.Network.{Network, at, holds, size, joined, passes, Proper, Ears, born, birth, trail, used, isNew, newSwitches}
+use Rattle.mondschein.specs.Judge.{Answer, given, check, verdict, judge, closing}
+use Rattle.mondschein.specs.Order.{position, fromA, between, extend, order, parent1, parent2, parent3By, parentOf, walkOf}
+use Rattle.mondschein.specs.Machine.{State, empty, opened, closed, Call, load, ear, close, clear, granted, settle, step, unknown, parentCall, walkCall, orderOf, machine, session}
 use Rattle.mondschein.specs.Routes.{Tree}
 use Rattle.mondschein.specs.Demands.{Alike, EitherEnd}
 use Rattle.mondschein.proofs.Logic.{which, clash, same?, or-false, or-true}
 use Rattle.mondschein.proofs.Search.{low-ext, count-ext}
 use Rattle.mondschein.proofs.Lists.{at-same, at-reverse, holds-reverse}
 use Rattle.mondschein.proofs.Links.{joined-sym, linkOf-sym, passes-reverse, adjacent-below}
-use Rattle.mondschein.proofs.Checks.{check-ext, check-pass, check-fail, Passed, new-between, between-new, verdict-ext, closing-ext}
+use Rattle.mondschein.proofs.Checks.{check-ext, check-fail, Passed, new-between, between-new, verdict-ext, closing-ext}
 use Rattle.mondschein.proofs.Births.{Passing, accepted-passing, later, born-snoc, used-snoc, birth-old, birth-new, birth-unborn}
 use Rattle.mondschein.proofs.Order.{put, extend-is, fromA-reverse}
 use Rattle.mondschein.proofs.Growth.{order-snoc, next-fits, order-some, parent1-root, parent2-root, parent2-first, parent1-old, parent2-old, parent1-new, parent2-new}

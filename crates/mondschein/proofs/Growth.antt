@@ -1,8 +1,8 @@
 -- The order along an accepted list: after each ear it holds what is born, once, from root to first, and every ear so far stands
 -- in it from A to B; and what one more ear does to the order and to trees 1 and 2.
 use mathlib.Core.Path.{_≡_, refl, sym, ap, ap₂, _∙_, subst}
-use mathlib.Core.Logic.{_⊎_, inl, inr, ⊎-elim, _≢_}
-use mathlib.Core.Bool.{Bool, true, false, cond}
+use mathlib.Core.Logic.{inl, ⊎-elim, _≢_}
+use mathlib.Core.Bool.{true, false, cond}
 use mathlib.Core.List.{List, [], _∷_, _++_, foldl, foldl-append}
 use Prim.Native.Nat.{ℕ, zero, suc, pred, _≤_, _<_}
 use native.Mathlib.Omega.{arith}
@@ -13,7 +13,7 @@ use borrow.Author.Tests.{eq-eqb, ne-eqb}
 use Rattle.mondschein.specs.Network.{Network, at, Simple, holds, Ears, earAt, born, birth}
 use Rattle.mondschein.specs.Order.{position, fromA, extend, order, course, parent1, parent2}
 use Rattle.mondschein.proofs.Logic.{which, clash, less?}
-use Rattle.mondschein.proofs.Lists.{holds-in, holds-at, holds-by, holds-nil}
+use Rattle.mondschein.proofs.Lists.{holds-at, holds-by, holds-nil}
 use Rattle.mondschein.proofs.Checks.{Passed}
 use Rattle.mondschein.proofs.Births.{Passing, first-passed, later-passed, born-at, at-born, born-take, take-born, birth-lt, birth-old, birth-new, old-ear}
 use Rattle.mondschein.proofs.Order.{position-is, position-at, Fits, Turned, fromA-turned, turned-back, extend-old, extend-root, extend-last, extend-course, extend-sound, extend-keeps, extend-brings, extend-simple}

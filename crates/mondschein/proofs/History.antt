@@ -1,15 +1,15 @@
--- The machine along a list of calls: its state is the list's history, and what it has loaded, accepted and closed is proper, accepted
--- and used.
+-- The machine along a list of calls: its state is the list's history, what it has loaded, accepted and closed is proper, accepted and
+-- used, and it refuses by its state.
 use mathlib.Core.Path.{_≡_, refl, sym, ap, _∙_, subst}
-use mathlib.Core.Bool.{Bool, true, false, cond, not}
+use mathlib.Core.Bool.{true, cond}
 use mathlib.Core.List.{List, [], _∷_, _++_, foldl}
 use Prim.Native.Nat.{ℕ, _<_}
 use native.Mathlib.Omega.{arith}
 use borrow.Author.Tests.{not-false}
 use Rattle.mondschein.specs.Network.{Network, size, Proper, Ears, used, newSwitches}
 use Rattle.mondschein.specs.Judge.{Answer, given, refused, loading, judge, closing, Accepted}
-use Rattle.mondschein.specs.Machine.{State, empty, opened, closed, Call, load, ear, close, clear, granted, Outcome, settle, step, machine, told, historyFrom, history, session}
-use Rattle.mondschein.specs.Demands.{StateIsHistory}
+use Rattle.mondschein.specs.Machine.{State, empty, opened, closed, Call, load, ear, close, clear, granted, settle, step, parentCall, walkCall, machine, told, historyFrom, history, session}
+use Rattle.mondschein.specs.Demands.{StateIsHistory, Stages}
 use Rattle.mondschein.proofs.Checks.{check-given}
 use Rattle.mondschein.proofs.Births.{accepted-snoc}
 use Rattle.mondschein.proofs.Loading.{loading-given}
@@ -86,3 +86,18 @@ module _ (cs : List Call) (s : State) (h : history machine cs ≡ s) where
 
   pub reached-of : Reached s
   reached-of = subst Reached state-of (reached cs)
+
+pub stages : Stages machine
+unfolding step settle parentCall walkCall
+stages =
+    record {
+      onEmpty = λ cs h v t e out.
+          subst (λ (s : State). (step s (ear e) .answer ≡ refused 19 0) × (step s close .answer ≡ refused 19 0) × (parentCall s v t ≡ refused 19 0) × (walkCall s v t out .answer ≡ refused 19 0))
+          (sym (state-of cs empty h)) (refl, refl, refl, refl);
+      onOpen = λ cs net net′ es h v t out.
+          subst (λ (s : State). (step s (load net′) .answer ≡ refused 20 0) × (parentCall s v t ≡ refused 21 0) × (walkCall s v t out .answer ≡ refused 21 0))
+          (sym (state-of cs (opened net es) h)) (refl, refl, refl);
+      onClosed = λ cs net net′ es h e.
+          subst (λ (s : State). (step s (load net′) .answer ≡ refused 20 0) × (step s (ear e) .answer ≡ refused 22 0) × (step s close .answer ≡ refused 22 0))
+          (sym (state-of cs (closed net es) h)) (refl, refl, refl);
+    }

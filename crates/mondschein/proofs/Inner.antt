@@ -1,15 +1,14 @@
 -- Inner vertices by their places: a new switch of an ear stands at one of its new indices, and is born in that ear.
 -- Shared by Sound.antt and Complete.antt.
-use mathlib.Core.Path.{_≡_, refl, sym, ap, _∙_}
-use mathlib.Core.Logic.{_⊎_, inl, inr, ⊎-elim, _≢_, _↔_}
+use mathlib.Core.Path.{_≡_, refl, sym, _∙_}
+use mathlib.Core.Logic.{_⊎_, inl, inr, ⊎-elim, _↔_}
 use mathlib.Core.Bool.{true}
-use mathlib.Core.List.{List}
 use Prim.Native.Nat.{ℕ, zero, suc, pred, _≤_, _<_}
 use native.Mathlib.Omega.{arith}
 use lib.Dec.{eqb}
 use lib.ListN.{length}
 use borrow.Author.Tests.{ne-eqb}
-use Rattle.mondschein.specs.Network.{at, In, Simple, Ears, earAt, birth, isNew}
+use Rattle.mondschein.specs.Network.{at, Simple, Ears, earAt, birth, isNew}
 use Rattle.mondschein.specs.Mondschein.{On, Before, End, Inner, Long}
 use Rattle.mondschein.proofs.Logic.{less?}
 use Rattle.mondschein.proofs.Lists.{at-same, holds-in, in-holds}

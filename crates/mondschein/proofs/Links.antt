@@ -1,17 +1,17 @@
 -- Laws of links: which switches they join, which lists they lie along, and that a proper network has one link for a pair.
 -- `joins`, `joined` and `passes` decide `Joins`, `Adjacent` and `Along`.
-use mathlib.Core.Path.{_≡_, refl, sym, ap₂, _∙_, subst}
-use mathlib.Core.Logic.{_⊎_, inl, inr, ⊎-elim, _≢_}
-use mathlib.Core.Bool.{Bool, true, false, _&&_, _||_, or-comm}
+use mathlib.Core.Path.{_≡_, sym, ap₂, _∙_, subst}
+use mathlib.Core.Logic.{_⊎_, inl, inr, ⊎-elim}
+use mathlib.Core.Bool.{Bool, true, false, _&&_, or-comm}
 use mathlib.Core.List.{List, [], _∷_, _++_, reverse, reverse-reverse}
-use Prim.Native.Nat.{ℕ, zero, suc, pred, _+_, _-_, _≤_, _<_}
+use Prim.Native.Nat.{ℕ, zero, suc, pred, _-_, _<_}
 use native.Mathlib.Omega.{arith}
 use lib.Dec.{eqb}
 use lib.ListN.{length, length-append, List·getD-append}
 use lib.ListN as L
 use lib.Seq.{getD-at}
 use borrow.Author.Tests.{eqb-true, eq-eqb}
-use Rattle.mondschein.specs.Network.{low, any, Network, at, In, holds, size, former, latter, Joins, Adjacent, Along, joins, joined, passes, linkOf, Proper, trail}
+use Rattle.mondschein.specs.Network.{any, Network, at, holds, size, former, latter, Joins, Adjacent, Along, joins, joined, passes, linkOf, Proper, trail}
 use Rattle.mondschein.proofs.Logic.{which, clash, less?, and-true, or-true, true-and, or-left, true-or}
 use Rattle.mondschein.proofs.Search.{low-ext, low-found, any-true, true-any}
 use Rattle.mondschein.proofs.Lists.{at-same, at-reverse, holds-in, holds-by}

@@ -3,7 +3,7 @@
 use mathlib.Core.Path.{_≡_, refl, sym, ap, _∙_, subst}
 use mathlib.Core.Logic.{_⊎_, inl, inr, ⊎-elim, _≢_}
 use mathlib.Core.Bool.{Bool, true, false, _&&_, _||_}
-use mathlib.Core.List.{List, [], _∷_, _++_, reverse, reverse-cons, reverse-reverse}
+use mathlib.Core.List.{List, [], _∷_, reverse, reverse-cons, reverse-reverse}
 use Prim.Native.Nat.{ℕ, zero, suc, _-_, _≤_, _<_}
 use native.Mathlib.Omega.{arith}
 use lib.Dec.{eqb}
@@ -11,7 +11,7 @@ use lib.ListN.{length, List·getD-append}
 use lib.ListN as L
 use lib.Seq.{getD-at}
 use borrow.Author.Tests.{eqb-true, eq-eqb, ne-eqb}
-use Rattle.mondschein.specs.Network.{any, count, at, In, Simple, holds}
+use Rattle.mondschein.specs.Network.{count, at, In, Simple, holds}
 use Rattle.mondschein.proofs.Logic.{which, clash, trichotomy, and-true, or-left, true-or, false-or}
 use Rattle.mondschein.proofs.Search.{any-true, true-any, pigeon, count-ext, count-shift, count-or, count-none, count-one}
 

@@ -1,17 +1,17 @@
 -- Loading succeeds exactly when the network is proper, and gives N and M.
 -- `loading-given` and `proper-loading` are its two halves.
-use mathlib.Core.Path.{_≡_, refl, sym, ap, _∙_}
-use mathlib.Core.Logic.{_⊎_, inl, inr, ⊎-elim, _≢_}
-use mathlib.Core.Bool.{Bool, true, false, not, _&&_, _||_}
+use mathlib.Core.Path.{_≡_, sym, ap, _∙_}
+use mathlib.Core.Logic.{inl, inr, ⊎-elim}
+use mathlib.Core.Bool.{not, _||_}
 use mathlib.Core.List.{List, [], _∷_}
-use Prim.Native.Nat.{ℕ, _+_, _*_, _/_, _%_, _≤_, _<_}
+use Prim.Native.Nat.{ℕ, _*_, _%_, _<_}
 use native.Mathlib.Nat.{div-add-mod'}
 use native.Mathlib.Omega.{arith}
 use lib.Dec.{eqb, ltb, leb}
 use lib.ListN.{length}
 use borrow.Author.Tests.{ltb-false, le-ltb, leb-false, lt-leb, eqb-true, eqb-false, eq-eqb, ne-eqb, not-false}
 use Rattle.mondschein.specs.Network.{Network, size, former, latter, Joins, joins, joined, Proper}
-use Rattle.mondschein.specs.Judge.{Answer, given, refused, limits, wrongSize, linkTooLarge, selfLink, repeatedLink, wrongNames, missingLink, loading}
+use Rattle.mondschein.specs.Judge.{given, wrongSize, linkTooLarge, selfLink, repeatedLink, wrongNames, missingLink, loading}
 use Rattle.mondschein.proofs.Logic.{which, clash, trichotomy, and-true, true-and, or-false, false-or}
 use Rattle.mondschein.proofs.Search.{any-false, false-any}
 use Rattle.mondschein.proofs.Links.{joins-cases, cases-joins, joined-adjacent, adjacent-joined}

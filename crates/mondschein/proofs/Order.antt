@@ -1,6 +1,6 @@
 -- Laws of the order of switches: positions, an ear turned from A to B, and what one more ear does: it keeps the old order and stands
 -- between its ends.
-use mathlib.Core.Path.{_≡_, refl, sym, ap, _∙_, subst}
+use mathlib.Core.Path.{_≡_, refl, sym, ap, _∙_}
 use mathlib.Core.Logic.{_⊎_, inl, inr, ⊎-elim, _≢_}
 use mathlib.Core.Bool.{Bool, true, false, cond}
 use mathlib.Core.List.{List, [], _∷_, _++_, reverse, append-assoc, reverse-reverse}
@@ -11,12 +11,12 @@ use lib.ListN.{length, take, drop, length-append, length-take, length-drop, List
 use lib.ListN as L
 use lib.Seq.{getD-append-add, getD-take, getD-drop, take-suc, drop-cons}
 use borrow.Author.Tests.{ltb-true, ltb-false, lt-ltb, le-ltb, eqb-true, eqb-false, eq-eqb, ne-eqb}
-use Rattle.mondschein.specs.Network.{low, any, at, In, Simple, holds}
+use Rattle.mondschein.specs.Network.{any, at, Simple, holds}
 use Rattle.mondschein.specs.Order.{position, fromA, between, extend}
 use Rattle.mondschein.specs.Routes.{FromA, Inserted}
 use Rattle.mondschein.proofs.Logic.{which, clash, less?}
 use Rattle.mondschein.proofs.Search.{low-is, low-eq}
-use Rattle.mondschein.proofs.Lists.{holds-in, holds-at, holds-by, absent, at-same, at-reverse}
+use Rattle.mondschein.proofs.Lists.{holds-in, holds-by, absent, at-same, at-reverse}
 
 -- positions
 pub position-at : (l : List ℕ) (x : ℕ) → holds l x ≡ true → (position l x < length l) × (at l (position l x) ≡ x)

@@ -9,9 +9,9 @@ use native.Mathlib.Omega.{arith}
 use lib.Dec.{eqb, ltb}
 use lib.ListN.{length}
 use borrow.Author.Tests.{ltb-true, lt-ltb, le-ltb, eqb-true, eqb-false, eq-eqb, ne-eqb}
-use Rattle.mondschein.specs.Network.{count, Network, at, In, holds, size, Joins, Adjacent, Along, joins, passes, Proper}
+use Rattle.mondschein.specs.Network.{count, Network, at, holds, Adjacent, joins, passes, Proper}
 use Rattle.mondschein.specs.Order.{walkBy}
-use Rattle.mondschein.specs.Routes.{Tree, Walk, arrived, onward, steps, Thing, switch, link, Spanning, Lies, Apart, Other, Hits, Whole, ThreeRoutes}
+use Rattle.mondschein.specs.Routes.{Tree, Walk, arrived, onward, steps, Thing, switch, link, Lies, Apart, Other, Hits, Whole, ThreeRoutes}
 use Rattle.mondschein.proofs.Logic.{which, same?, clash}
 use Rattle.mondschein.proofs.Search.{count-lt, count-bound}
 use Rattle.mondschein.proofs.Lists.{holds-cons, holds-nil, holds-in, in-holds}

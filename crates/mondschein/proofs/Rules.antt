@@ -1,27 +1,23 @@
 -- The order and the tables keep document 01's rules; a short ear leaves them; and three routes hold for any choice of later-born
 -- neighbours as tree 3.
 use mathlib.Core.Path.{_≡_, refl, sym, ap, _∙_, subst}
-use mathlib.Core.Logic.{_⊎_, inl, inr, ⊎-elim, _≢_, _↔_}
-use mathlib.Core.Bool.{Bool, true, false, _||_, cond}
+use mathlib.Core.Logic.{⊎-elim}
+use mathlib.Core.Bool.{Bool, true, false, _||_}
 use mathlib.Core.List.{List, [], _∷_, _++_}
 use Prim.Native.Nat.{ℕ, zero, suc, pred, _≤_, _<_}
 use native.Mathlib.Omega.{arith}
-use lib.Dec.{eqb}
-use lib.ListN.{length, take, length-append}
-use lib.Seq.{take-length, take-at, getD-at}
-use borrow.Author.Tests.{ne-eqb}
-use Rattle.mondschein.specs.Network.{Network, at, In, Simple, holds, size, Proper, Ears, earAt, born, birth, used}
-use Rattle.mondschein.specs.Judge.{Accepted}
-use Rattle.mondschein.specs.Order.{position, order, course, parent1, parent2, parent3By, parentOf}
+use lib.ListN.{length, take}
+use lib.Seq.{take-length}
+use Rattle.mondschein.specs.Network.{Network, at, holds, size, Proper, Ears, earAt, born, birth, used}
+use Rattle.mondschein.specs.Order.{position, order, course, parentOf}
 use Rattle.mondschein.specs.Routes.{OrderRules, Inserted, Course, TableRules}
 use Rattle.mondschein.specs.Demands.{Ordered, ShortEar, AnyThird}
 use Rattle.mondschein.proofs.Logic.{which, clash, less?}
 use Rattle.mondschein.proofs.Lists.{at-same, holds-in, in-holds}
 use Rattle.mondschein.proofs.Checks.{Passed}
-use Rattle.mondschein.proofs.Births.{Passing, accepted-passing, accepted-prefix, later-passed, next-passed, later, born-at, at-born, take-born, born-snoc, birth-old, birth-birth}
+use Rattle.mondschein.proofs.Births.{Passing, accepted-passing, accepted-prefix, next-passed, later, born-at, at-born, born-snoc, birth-old, birth-birth}
 use Rattle.mondschein.proofs.Order.{position-at, fromA-rule, extend-rule, extend-short}
 use Rattle.mondschein.proofs.Growth.{order-suc, order-one, order-snoc, grown, whole-grown, order-full, order-sound, order-simple, order-some, later-fits, root-held, parent2-first, parent1-old, parent2-old}
-use Rattle.mondschein.proofs.Routes.{by-tree}
 use Rattle.mondschein.proofs.Trees.{all-born, third-rule, third-lowest, before, after, closed-routes}
 use Rattle.mondschein.proofs.Complete.{complete, complete-used}
 

@@ -1,16 +1,16 @@
 -- Soundness: a list that is accepted ear by ear, and uses every link, is a Mondschein sequence.
 -- `sound` puts the facts of the checks together to Definition 9.
 use mathlib.Core.Path.{_≡_, refl, sym, ap, _∙_, subst}
-use mathlib.Core.Logic.{_⊎_, inl, inr, ⊎-elim, _≢_, _↔_}
-use mathlib.Core.Bool.{Bool, true, false, _||_}
+use mathlib.Core.Logic.{inl, inr, ⊎-elim, _≢_, _↔_}
+use mathlib.Core.Bool.{Bool, true, false}
 use mathlib.Core.List.{List, []}
 use Prim.Native.Nat.{ℕ, zero, suc, pred, _≤_, _<_}
 use native.Mathlib.Omega.{arith}
 use lib.Dec.{eqb}
 use lib.ListN.{length, take, length-take}
-use borrow.Author.Tests.{eqb-true, ne-eqb}
-use Rattle.mondschein.specs.Network.{any, Network, at, In, holds, size, Joins, Along, joins, joined, passes, linkOf, Proper, Ears, earAt, born, birth, trail, used, isNew}
-use Rattle.mondschein.specs.Mondschein.{On, Before, End, Inner, Long, Birth, Contains, NonSeparating, Mondschein}
+use borrow.Author.Tests.{ne-eqb}
+use Rattle.mondschein.specs.Network.{Network, at, In, holds, size, Joins, Along, joined, passes, Proper, Ears, earAt, born, birth, trail, used, isNew}
+use Rattle.mondschein.specs.Mondschein.{On, Before, End, Inner, Long, Contains, NonSeparating, Mondschein}
 use Rattle.mondschein.proofs.Logic.{clash, same?, less?, trichotomy, or-true}
 use Rattle.mondschein.proofs.Search.{true-any}
 use Rattle.mondschein.proofs.Lists.{at-same, holds-in, in-holds}

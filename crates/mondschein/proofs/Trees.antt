@@ -2,23 +2,22 @@
 -- and so has three routes to the root, whichever later-born neighbours are taken as tree 3.
 use mathlib.Core.Path.{_≡_, refl, sym, ap, _∙_, subst}
 use mathlib.Core.Logic.{_⊎_, inl, inr, ⊎-elim, _≢_}
-use mathlib.Core.Bool.{Bool, true, false, _&&_, _||_, cond}
-use mathlib.Core.List.{List, []}
+use mathlib.Core.Bool.{Bool, true, false, _&&_}
+use mathlib.Core.List.{List}
 use Prim.Native.Nat.{ℕ, zero, suc, pred, _+_, _-_, _≤_, _<_}
 use native.Mathlib.Omega.{arith}
 use lib.Dec.{eqb, ltb}
 use lib.ListN.{length, take}
 use lib.Seq.{take-length}
 use borrow.Author.Tests.{ltb-true, ltb-false, lt-ltb, eq-eqb, ne-eqb}
-use Rattle.mondschein.specs.Network.{low, any, Network, at, holds, size, Adjacent, joins, joined, passes, Proper, Ears, earAt, born, birth, trail, used, isNew}
+use Rattle.mondschein.specs.Network.{low, Network, at, holds, size, Adjacent, joins, joined, passes, Proper, Ears, earAt, born, birth, trail, used, isNew}
 use Rattle.mondschein.specs.Order.{position, order, course, parent1, parent2, parent3By, walkBy}
 use Rattle.mondschein.specs.Routes.{LaterBorn, Third, ThreeRoutes}
 use Rattle.mondschein.proofs.Logic.{which, clash, same?, less?, trichotomy, and-true, true-and, or-true, and-false}
 use Rattle.mondschein.proofs.Search.{low-is, low-found, any-true}
 use Rattle.mondschein.proofs.Lists.{at-same, holds-in, holds-at, holds-by}
 use Rattle.mondschein.proofs.Links.{joined-adjacent, adjacent-joined, joined-sym, passes-held, trail-held}
-use Rattle.mondschein.proofs.Checks.{Passed}
-use Rattle.mondschein.proofs.Births.{Passing, first-passed, later-passed, ear-two, at-born, born-take, take-born, birth-le, birth-lt, birth-held, not-before, birth-isNew, birth-birth, birth-unique}
+use Rattle.mondschein.proofs.Births.{Passing, first-passed, ear-two, at-born, born-take, take-born, birth-le, birth-lt, birth-held, not-before, birth-isNew, birth-birth, birth-unique}
 use Rattle.mondschein.proofs.Order.{position-at, turned-fits, turned-on, turned-back}
 use Rattle.mondschein.proofs.Growth.{grown, course-turned, later-fits, root-held, parent1-root, parent2-root, parent2-first}
 use Rattle.mondschein.proofs.Routes.{by-tree, Numbered, three-routes}
@@ -141,7 +140,6 @@ module _ (net : Network) (proper : Proper net) (es : Ears) (acc : Passing net es
 
   -- two neighbours in a course
   record Next (i a z : ℕ) : Type 0 where
-    below-a : a < net .n
     below-z : z < net .n
     link-az : joined net a z ≡ true
     up-az : s a < s z
@@ -151,7 +149,6 @@ module _ (net : Network) (proper : Proper net) (es : Ears) (acc : Passing net es
   next : (i k : ℕ) → i < length es → suc k < length (course es i) → Next i (at (course es i) k) (at (course es i) (suc k))
   next i k b l =
       record {
-        below-a = course-below i k b (omega arith);
         below-z = course-below i (suc k) b l;
         link-az = course-link i k b l;
         up-az = rise i b k l;

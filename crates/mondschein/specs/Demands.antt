@@ -7,9 +7,9 @@ use mathlib.Core.List.{List, [], _∷_, _++_, reverse, map}
 use Prim.Native.Nat.{ℕ, _≤_, _<_}
 use lib.ListN.{length, drop}
 use Rattle.mondschein.specs.Network.{Network, In, size, Proper, Ears, born, birth, newSwitches}
-use Rattle.mondschein.specs.Judge.{Answer, given, refused, Accepted}
+use Rattle.mondschein.specs.Judge.{given, refused, Accepted}
 use Rattle.mondschein.specs.Order.{order, parent1, parent2}
-use Rattle.mondschein.specs.Machine.{State, empty, opened, closed, Call, load, ear, close, clear, Outcome, orderOf, Program, machine, history, session}
+use Rattle.mondschein.specs.Machine.{empty, opened, closed, Call, load, ear, close, clear, orderOf, Program, machine, history, session}
 use Rattle.mondschein.specs.Mondschein.{Contains, Mondschein}
 use Rattle.mondschein.specs.Routes.{Tree, ThreeRoutes, OrderRules, Third, TableRules}
 
@@ -58,6 +58,15 @@ module _ (prog : Program) where
     pub walks : (s : prog .Session) (v t : ℕ) (out : List ℕ)
         → ((c : ℕ) × (prog .walk s v t out .answer ≡ given (c ∷ [])))
         ⊎ ((num : ℕ) × (prog .walk s v t out ≡ record { answer = refused num 0; after = out }) × In (17 ∷ 18 ∷ 19 ∷ 21 ∷ []) num)
+
+  -- the refusals from the state, by the history
+  pub record Stages : Type 0 where
+    pub onEmpty : (cs : List Call) → history prog cs ≡ empty → (v t : ℕ) (e out : List ℕ) → (prog .answer (session prog cs) (ear e) ≡ refused 19 0)
+        × (prog .answer (session prog cs) close ≡ refused 19 0) × (prog .parent (session prog cs) v t ≡ refused 19 0) × (prog .walk (session prog cs) v t out .answer ≡ refused 19 0)
+    pub onOpen : (cs : List Call) (net net′ : Network) (es : Ears) → history prog cs ≡ opened net es → (v t : ℕ) (out : List ℕ)
+        → (prog .answer (session prog cs) (load net′) ≡ refused 20 0) × (prog .parent (session prog cs) v t ≡ refused 21 0) × (prog .walk (session prog cs) v t out .answer ≡ refused 21 0)
+    pub onClosed : (cs : List Call) (net net′ : Network) (es : Ears) → history prog cs ≡ closed net es → (e : List ℕ)
+        → (prog .answer (session prog cs) (load net′) ≡ refused 20 0) × (prog .answer (session prog cs) (ear e) ≡ refused 22 0) × (prog .answer (session prog cs) close ≡ refused 22 0)
 
   -- parent calls on s give the tables p
   abbrev pub Entries : prog .Session → Network → (ℕ → ℕ → ℕ) → Type 0

@@ -1,7 +1,7 @@
 -- Document 01, "Refusals from the input": what load, ear and close answer by the numbered checks, each over the whole input,
 -- in number order. The judge of an ear asks the network, which switches are born and which links used, and nothing else.
 use mathlib.Core.Path.{_≡_}
-use mathlib.Core.Bool.{Bool, true, false, not, _&&_, _||_, cond}
+use mathlib.Core.Bool.{Bool, not, _&&_, _||_, cond}
 use mathlib.Core.List.{List, [], _∷_}
 use Prim.Native.Nat.{ℕ, suc, pred, _%_, _<_}
 use lib.Dec.{eqb, ltb, leb}
@@ -62,15 +62,15 @@ module _ (net : Network) where
       (check 6 1 missingLink
       (given (net .n ∷ size net ∷ [])))))))
 
--- the ear e, offered where `isBorn` are born and `isUsed` used; b says whether it is the first
-module _ (net : Network) (isBorn isUsed : ℕ → Bool) (b : Bool) (e : List ℕ) where
+-- the ear e, the first or a later one, offered where `isBorn` are born and `isUsed` used
+module _ (net : Network) (isBorn isUsed : ℕ → Bool) (isFirst : Bool) (e : List ℕ) where
   -- x is still unborn after the ear
   abbrev pub unborn : ℕ → Bool
   unborn x = not (isBorn x || holds e x)
 
   -- 7: fewer than 2 numbers (first ear: 3) or more than N
   unfoldable pub wrongLength : ℕ → Bool
-  wrongLength k = ltb (length e) (cond b 3 2) || ltb (net .n) (length e)
+  wrongLength k = ltb (length e) (cond isFirst 3 2) || ltb (net .n) (length e)
 
   -- 8: a number of N or more
   unfoldable pub tooLarge : ℕ → Bool
@@ -90,19 +90,19 @@ module _ (net : Network) (isBorn isUsed : ℕ → Bool) (b : Bool) (e : List ℕ
 
   -- 12: the first ear does not run from root to first
   unfoldable pub wrongCycle : ℕ → Bool
-  wrongCycle k = b && not (eqb (at e 0) (net .root) && eqb (at e (pred (length e))) (net .first))
+  wrongCycle k = isFirst && not (eqb (at e 0) (net .root) && eqb (at e (pred (length e))) (net .first))
 
   -- 13: an end of a later ear is unborn
   unfoldable pub unbornEnd : ℕ → Bool
-  unbornEnd k = not b && (not (isNew b (length e) k) && not (isBorn (at e k)))
+  unbornEnd k = not isFirst && (not (isNew isFirst (length e) k) && not (isBorn (at e k)))
 
   -- 14: a switch between the ends is born already
   unfoldable pub bornBetween : ℕ → Bool
-  bornBetween k = not b && (isNew b (length e) k && isBorn (at e k))
+  bornBetween k = not isFirst && (isNew isFirst (length e) k && isBorn (at e k))
 
   -- 15: last is new here, and another switch is new here, or another is still unborn after the ear, or an end is root
   unfoldable pub otherNew : ℕ → Bool
-  otherNew k = any (λ j. isNew b (length e) j && not (eqb j k)) (length e)
+  otherNew k = any (λ j. isNew isFirst (length e) j && not (eqb j k)) (length e)
 
   unfoldable pub otherUnborn : Bool
   otherUnborn = any (λ x. not (eqb x (net .last)) && unborn x) (net .n)
@@ -111,11 +111,11 @@ module _ (net : Network) (isBorn isUsed : ℕ → Bool) (b : Bool) (e : List ℕ
   rootEnd = eqb (at e 0) (net .root) || eqb (at e (pred (length e))) (net .root)
 
   unfoldable pub lastEarly : ℕ → Bool
-  lastEarly k = isNew b (length e) k && (eqb (at e k) (net .last) && (otherNew k || (otherUnborn || rootEnd)))
+  lastEarly k = isNew isFirst (length e) k && (eqb (at e k) (net .last) && (otherNew k || (otherUnborn || rootEnd)))
 
   -- 16: a new switch other than last keeps no unborn neighbour
   unfoldable pub noneUnborn : ℕ → Bool
-  noneUnborn k = isNew b (length e) k && (not (eqb (at e k) (net .last)) && not (any (λ x. joined net (at e k) x && unborn x) (net .n)))
+  noneUnborn k = isNew isFirst (length e) k && (not (eqb (at e k) (net .last)) && not (any (λ x. joined net (at e k) x && unborn x) (net .n)))
 
   unfoldable pub verdict : Answer
   verdict =
@@ -129,7 +129,7 @@ module _ (net : Network) (isBorn isUsed : ℕ → Bool) (b : Bool) (e : List ℕ
       (check 14 (length e) bornBetween
       (check 15 (length e) lastEarly
       (check 16 (length e) noneUnborn
-      (given (newCount b (length e) ∷ [])))))))))))
+      (given (newCount isFirst (length e) ∷ [])))))))))))
 
 -- offering the ear e after the accepted ears es
 unfoldable pub judge : Network → Ears → List ℕ → Answer

@@ -89,16 +89,7 @@ pub record Program : Type 1 where
 
 -- the machine of document 01
 abbrev pub machine : Program
-machine =
-    record {
-      Session = State;
-      fresh = empty;
-      after = λ s c. step s c .after;
-      answer = λ s c. step s c .answer;
-      parent = parentCall;
-      walk = walkCall;
-      order = orderOf;
-    }
+machine = record { Session = State; fresh = empty; after = λ s c. step s c .after; answer = λ s c. step s c .answer; parent = parentCall; walk = walkCall; order = orderOf }
 
 -- what calls and their answers tell: the network is that of the last load that succeeded, the ears are those accepted since, in
 -- order; closed means that a close succeeded since, and no clear came since

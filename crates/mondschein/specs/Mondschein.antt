@@ -2,7 +2,6 @@
 -- list of its switches; P_0 is a cycle, written from root to first, whose closing link is understood.
 use mathlib.Core.Path.{_≡_}
 use mathlib.Core.Logic.{_⊎_, _≢_, _↔_}
-use mathlib.Core.List.{List}
 use Prim.Native.Nat.{ℕ, zero, suc, pred, _≤_, _<_}
 use lib.Dec.{eqb}
 use lib.ListN.{length}

@@ -41,9 +41,7 @@ parent1 net es v = let c = course es (birth es v) in cond (eqb v (net .root)) v 
 
 -- tree 2: the neighbour towards B; first has parent root
 unfoldable pub parent2 : Network → Ears → ℕ → ℕ
-parent2 net es v =
-    let c = course es (birth es v) in
-    cond (eqb v (net .root)) v (cond (eqb v (net .first)) (net .root) (at c (suc (position c v))))
+parent2 net es v = let c = course es (birth es v) in cond (eqb v (net .root)) v (cond (eqb v (net .first)) (net .root) (at c (suc (position c v))))
 
 -- tree 3, of any numbering of births: last has parent root, any other switch the lowest-numbered neighbour born later
 unfoldable pub parent3By : Network → (ℕ → ℕ) → ℕ → ℕ
