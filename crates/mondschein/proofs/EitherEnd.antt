@@ -20,7 +20,8 @@ use Rattle.mondschein.proofs.Logic.{which, clash, same?, or-false, or-t
 use Rattle.mondschein.proofs.Search.{low-ext, count-ext}
 use Rattle.mondschein.proofs.Lists.{at-same, at-reverse, holds-reverse}
 use Rattle.mondschein.proofs.Links.{joined-sym, linkOf-sym, passes-reverse, adjacent-below}
-use Rattle.mondschein.proofs.Checks.{check-ext, check-fail, Passed, new-between, between-new, verdict-ext, closing-ext}
+use Rattle.mondschein.proofs.Checks.{check-fail, Passed, new-between, between-new}
+use Rattle.mondschein.proofs.Agreement.{check-ext, verdict-ext, closing-ext}
 use Rattle.mondschein.proofs.Births.{Passing, accepted-passing, later, born-snoc, used-snoc, birth-old, birth-new, birth-unborn}
 use Rattle.mondschein.proofs.Order.{put, extend-is, fromA-reverse}
 use Rattle.mondschein.proofs.Growth.{order-snoc, next-fits, order-some, parent1-root, parent2-root, parent2-first, parent1-old, parent2-old, parent1-new, parent2-new}

@@ -4,9 +4,9 @@ pub mod Lists
 pub mod Links
 pub mod Checks
 pub mod Births
+pub mod Loading
 pub mod Order
 pub mod Growth
-pub mod Loading
 pub mod Routes
 pub mod Trees
 pub mod Inner
@@ -15,8 +15,9 @@ pub mod Complete
 pub mod Rules
 pub mod Counts
 pub mod History
-pub mod Demand1
 pub mod Demand2
 pub mod Demand3
+pub mod Demand1
+pub mod Agreement
 pub mod EitherEnd
 pub mod Bounds

@@ -2,7 +2,7 @@
 -- `loading-given` and `proper-loading` are its two halves.
 use mathlib.Core.Path.{_≡_, sym, ap, _∙_}
 use mathlib.Core.Logic.{inl, inr, ⊎-elim}
-use mathlib.Core.Bool.{not, _||_}
+use mathlib.Core.Bool.{Bool, not, _||_}
 use mathlib.Core.List.{List, [], _∷_}
 use Prim.Native.Nat.{ℕ, _*_, _%_, _<_}
 use native.Mathlib.Nat.{div-add-mod'}
@@ -11,11 +11,15 @@ use lib.Dec.{eqb, ltb, leb}
 use lib.ListN.{length}
 use borrow.Author.Tests.{ltb-false, le-ltb, leb-false, lt-leb, eqb-true, eqb-false, eq-eqb, ne-eqb, not-false}
 use Rattle.mondschein.specs.Network.{Network, size, former, latter, Joins, joins, joined, Proper}
-use Rattle.mondschein.specs.Judge.{given, wrongSize, linkTooLarge, selfLink, repeatedLink, wrongNames, missingLink, loading}
+use Rattle.mondschein.specs.Judge.{given, limits, wrongSize, linkTooLarge, selfLink, repeatedLink, wrongNames, missingLink, loading}
 use Rattle.mondschein.proofs.Logic.{which, clash, trichotomy, and-true, true-and, or-false, false-or}
 use Rattle.mondschein.proofs.Search.{any-false, false-any}
 use Rattle.mondschein.proofs.Links.{joins-cases, cases-joins, joined-adjacent, adjacent-joined}
 use Rattle.mondschein.proofs.Checks.{Clear, check-given, check-pass}
+
+-- a number outside its limits
+abbrev outside : ℕ → ℕ → ℕ → Bool
+outside x low high = ltb x low || ltb high x
 
 module _ (net : Network) where
   -- a whole table has an even number of numbers
@@ -45,10 +49,10 @@ module _ (net : Network) where
       let (c4, q4) = check-given _ _ _ _ vs q3 in
       let (c5, q5) = check-given _ _ _ _ vs q4 in
       let (c6, q6) = check-given _ _ _ _ vs q5 in
-      let (s, e) = or-false (ltb (net .n) 4 || ltb 1024 (net .n) || (ltb (size net) 6 || ltb 4096 (size net))) _ (c1 0 (omega arith)) in
-      let (sn, sm) = or-false (ltb (net .n) 4 || ltb 1024 (net .n)) _ s in
-      let (n1, n2) = or-false (ltb (net .n) 4) _ sn in
-      let (m1, m2) = or-false (ltb (size net) 6) _ sm in
+      let (s, e) = or-false (outside (net .n) (limits .minSwitches) (limits .maxSwitches) || outside (size net) (limits .minLinks) (limits .maxLinks)) _ (c1 0 (omega arith)) in
+      let (sn, sm) = or-false (outside (net .n) (limits .minSwitches) (limits .maxSwitches)) _ s in
+      let (n1, n2) = or-false (ltb (net .n) (limits .minSwitches)) _ sn in
+      let (m1, m2) = or-false (ltb (size net) (limits .minLinks)) _ sm in
       let (below, diff) = or-false (leb (net .n) (net .root) || leb (net .n) (net .first) || leb (net .n) (net .last)) _ (c5 0 (omega arith)) in
       let (b12, b3) = or-false (leb (net .n) (net .root) || leb (net .n) (net .first)) _ below in
       let (b1, b2) = or-false (leb (net .n) (net .root)) _ b12 in

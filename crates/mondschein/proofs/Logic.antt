@@ -2,7 +2,7 @@
 -- Cited by every module here.
 use mathlib.Core.Path.{_≡_, refl, sym, _∙_}
 use mathlib.Core.Logic.{_⊎_, inl, inr, ⊎-elim, _≢_}
-use mathlib.Core.Bool.{Bool, true, false, _&&_, _||_, true≢false}
+use mathlib.Core.Bool.{Bool, true, false, _&&_, _||_, cond, true≢false}
 use Prim.Native.Nat.{ℕ, _≤_, _<_}
 use native.Mathlib.Omega.{arith}
 use lib.Dec.{eqb, ltb}
@@ -65,3 +65,7 @@ false-and false b h = refl
 pub false-or : (a b : Bool) → a ≡ false → b ≡ false → (a || b) ≡ false
 false-or true b h k = h
 false-or false b h k = k
+
+pub cond-either : {A : Type 0} (b : Bool) (x y : A) → (cond b x y ≡ x) ⊎ (cond b x y ≡ y)
+cond-either true x y = inl refl
+cond-either false x y = inr refl

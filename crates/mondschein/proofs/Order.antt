@@ -14,7 +14,7 @@ use borrow.Author.Tests.{ltb-true, ltb-false, lt-ltb, le-ltb, eqb-true, eqb-fals
 use Rattle.mondschein.specs.Network.{any, at, Simple, holds}
 use Rattle.mondschein.specs.Order.{position, fromA, between, extend}
 use Rattle.mondschein.specs.Routes.{FromA, Inserted}
-use Rattle.mondschein.proofs.Logic.{which, clash, less?}
+use Rattle.mondschein.proofs.Logic.{which, clash, less?, cond-either}
 use Rattle.mondschein.proofs.Search.{low-is, low-eq}
 use Rattle.mondschein.proofs.Lists.{holds-in, holds-by, absent, at-same, at-reverse}
 
@@ -38,13 +38,16 @@ pub record Turned (e c : List ℕ) : Type 0 where
   pub long : length c ≡ length e
   pub ways : ((k : ℕ) → k < length e → at c k ≡ at e k) ⊎ ((k : ℕ) → k < length e → at c k ≡ at e (length e - suc k))
 
-pub fromA-turned : (o e : List ℕ) → Turned e (fromA o e)
+pub fromA-either : (o e : List ℕ) → (fromA o e ≡ e) ⊎ (fromA o e ≡ reverse e)
 unfolding fromA
-fromA-turned o e = go (ltb (position o (at e 0)) (position o (at e (pred (length e)))))
-  where
-    go : (b : Bool) → Turned e (cond b e (reverse e))
-    go true = record { long = refl; ways = inl (λ k h. refl) }
-    go false = record { long = L.length-reverse e; ways = inr (at-reverse e) }
+fromA-either o e = cond-either (ltb (position o (at e 0)) (position o (at e (pred (length e))))) e (reverse e)
+
+pub fromA-turned : (o e : List ℕ) → Turned e (fromA o e)
+fromA-turned o e =
+    ⊎-elim
+    (λ (q : fromA o e ≡ e). rw q (record { long = refl; ways = inl (λ k h. refl) }))
+    (λ (q : fromA o e ≡ reverse e). rw q (record { long = L.length-reverse e; ways = inr (at-reverse e) }))
+    (fromA-either o e)
 
 -- `new` between the first m of o and the rest
 abbrev pub put : List ℕ → List ℕ → ℕ → List ℕ
@@ -388,14 +391,6 @@ module _ (o e : List ℕ) (f : Fits o e) where
       (λ k a. let b : suc (suc k) < length c = omega (arith, between-length c) in held o (between-at c k b) (g .inner (suc k) (omega arith) b)))
 
 -- the functions keep the rules
-pub fromA-either : (o e : List ℕ) → (fromA o e ≡ e) ⊎ (fromA o e ≡ reverse e)
-unfolding fromA
-fromA-either o e = go (ltb (position o (at e 0)) (position o (at e (pred (length e)))))
-  where
-    go : (b : Bool) → (cond b e (reverse e) ≡ e) ⊎ (cond b e (reverse e) ≡ reverse e)
-    go true = inl refl
-    go false = inr refl
-
 pub fromA-rule : (o e : List ℕ) → Fits o e → FromA o e (fromA o e)
 fromA-rule o e f =
     let g = turned-fits o e (fromA o e) f (fromA-turned o e) in
