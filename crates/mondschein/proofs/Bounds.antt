@@ -1,5 +1,5 @@
--- Bounds of an accepted list, for whatever stores it: its order has at most N switches, it has at most N long ears and M ears, and
--- births numbered by long ears compare as births by ear do.
+-- The order and the bounds of an accepted list, for whatever stores it: its order has at most N switches, it has at most N long ears
+-- and M ears, and births numbered by long ears compare as births by ear do.
 use mathlib.Core.Path.{_≡_, refl, sym, ap, _∙_, subst}
 use mathlib.Core.Logic.{⊎-elim, _↔_}
 use mathlib.Core.Bool.{Bool, true, false, not}
@@ -12,16 +12,18 @@ use lib.Seq.{length-take-le}
 use borrow.Author.Tests.{eqb-false, ne-eqb, not-true}
 use Rattle.mondschein.specs.Network.{count, Network, at, holds, size, joins, passes, linkOf, Ears, earAt, born, birth, trail, used, longEars, longBirth}
 use Rattle.mondschein.specs.Order.{order}
+use Rattle.mondschein.specs.Demands.{Bounded, Ordered}
 use Rattle.mondschein.proofs.Logic.{which, clash, less?, trichotomy}
 use Rattle.mondschein.proofs.Search.{true-any, pigeon, count-le, count-lt, count-bound, count-ext, count-skip, count-hit, count-more}
 use Rattle.mondschein.proofs.Lists.{holds-in, holds-at, in-holds, simple-length}
 use Rattle.mondschein.proofs.Links.{trail-passes, link-found}
-use Rattle.mondschein.proofs.Births.{Passing, first-passed, later-passed, ear-two, earlier, born-at, born-take, take-born, birth-lt, birth-held, birth-isNew}
+use Rattle.mondschein.proofs.Births.{Passing, accepted-passing, first-passed, later-passed, ear-two, earlier, born-at, born-take, take-born, birth-lt, birth-held, birth-isNew}
 use Rattle.mondschein.proofs.Growth.{order-sound, order-simple}
 use Rattle.mondschein.proofs.Inner.{new-long}
+use Rattle.mondschein.proofs.Rules.{order-rules}
 
 module _ (net : Network) (es : Ears) (acc : Passing net es) where
-  pub order-bound : length (order es) ≤ net .n
+  order-bound : length (order es) ≤ net .n
   order-bound =
       simple-length (net .n) (order es) (order-simple net es acc)
       (λ x h.
@@ -30,7 +32,7 @@ module _ (net : Network) (es : Ears) (acc : Passing net es) where
       subst (λ (y : ℕ). y < net .n) q (acc i b .below k l))
 
   -- each ear begins with a link of its own
-  pub ears-bound : length es ≤ size net
+  ears-bound : length es ≤ size net
   unfolding used
   ears-bound = pigeon (length es) (size net) own (λ i l. found i l .0) inj
     where
@@ -82,7 +84,7 @@ module _ (net : Network) (es : Ears) (acc : Passing net es) where
       (λ f. omega (arith, count-skip isLong i f, long-born i (omega arith), count-le (born (take i es)) (born (take (suc i) es)) (net .n) kept))
       (which (isLong i))
 
-  pub long-bound : longEars es ≤ net .n
+  long-bound : longEars es ≤ net .n
   unfolding longEars isLong
   long-bound = omega (arith, long-born (length es) (omega arith), count-bound (born (take (length es) es)) (net .n))
 
@@ -106,15 +108,21 @@ module _ (net : Network) (es : Ears) (acc : Passing net es) where
   unfolding longBirth
   long-birth x h = rw h (long-take (suc (birth es x)) (birth-lt es x h) ∙ count-hit isLong (birth es x) (birth-long x h))
 
-  pub long-birth-born : (x : ℕ) → (longBirth es x ≡ 0) ↔ (born es x ≡ false)
+  long-birth-born : (x : ℕ) → (longBirth es x ≡ 0) ↔ (born es x ≡ false)
   unfolding longBirth
   long-birth-born x = (
     λ z. ⊎-elim (λ t. absurd (omega (arith, long-birth x t))) (λ f. f) (which (born es x)),
     λ f. rw f,
   )
 
-  pub long-birth-less : (x y : ℕ) → born es x ≡ true → born es y ≡ true → (longBirth es x < longBirth es y) ↔ (birth es x < birth es y)
+  long-birth-less : (x y : ℕ) → born es x ≡ true → born es y ≡ true → (longBirth es x < longBirth es y) ↔ (birth es x < birth es y)
   long-birth-less x y h k = (
     λ l. ⊎-elim (λ m. m) (λ m. absurd (omega (arith, long-birth x h, long-birth y k, count-more isLong (birth es y) (birth es x) m))) (less? (birth es x) (birth es y)),
     λ l. omega (arith, long-birth x h, long-birth y k, count-hit isLong (birth es x) (birth-long x h), count-more isLong (suc (birth es x)) (birth es y) l),
   )
+
+  bounded : Bounded net es
+  bounded = record { switches = order-bound; longs = long-bound; ears = ears-bound; unborn = long-birth-born; births = long-birth-less }
+
+pub ordered : Ordered
+ordered net es l a = let acc = accepted-passing net es a in (order-rules net es acc l, bounded net es acc)

@@ -6,16 +6,15 @@ use mathlib.Core.Bool.{cond}
 use mathlib.Core.List.{List, [], _∷_}
 use Prim.Native.Nat.{ℕ, _<_}
 use native.Mathlib.Omega.{arith}
-use lib.ListN.{length}
 use Rattle.mondschein.specs.Network.{Network, In, Ears, used}
 use Rattle.mondschein.specs.Judge.{Answer, given, refused, loading, verdict, judge, closing}
 use Rattle.mondschein.specs.Machine.{State, empty, opened, closed, Call, load, ear, close, clear, granted, Outcome, settle, step, parentCall, walkCall, machine}
-use Rattle.mondschein.specs.Demands.{values, Refusal, Demand1}
+use Rattle.mondschein.specs.Demands.{Refusal, Demand1}
 use Rattle.mondschein.proofs.Checks.{check-either}
 
 -- an answer of the call c
 abbrev Fair : Call → Answer → Type 0
-Fair c a = ((vs : List ℕ) × (a ≡ given vs) × (length vs ≡ values c)) ⊎ ((num place : ℕ) × (a ≡ refused num place) × Refusal c num place)
+Fair c a = ((vs : List ℕ) × (a ≡ given vs)) ⊎ ((num place : ℕ) × (a ≡ refused num place) × Refusal c num place)
 
 load-fair : (net : Network) → Fair (load net) (loading net)
 unfolding loading
@@ -26,7 +25,7 @@ load-fair net =
     (check-either Q 4 _ _ _ (λ k l. inr (4, k, refl, inr ((2, omega arith, refl), l)))
     (check-either Q 5 _ _ _ (λ k l. inr (5, k, refl, inl ((1, omega arith, refl), omega arith)))
     (check-either Q 6 _ _ _ (λ k l. inr (6, k, refl, inl ((2, omega arith, refl), omega arith)))
-    (inl (_, refl, refl)))))))
+    (inl (_, refl)))))))
   where
     Q : Answer → Type 0
     Q = Fair (load net)
@@ -44,18 +43,18 @@ ear-fair net es e =
     (check-either Q 14 _ _ _ (λ k l. inr (14, k, refl, inr ((5, omega arith, refl), l)))
     (check-either Q 15 _ _ _ (λ k l. inr (15, k, refl, inr ((6, omega arith, refl), l)))
     (check-either Q 16 _ _ _ (λ k l. inr (16, k, refl, inr ((7, omega arith, refl), l)))
-    (inl (_, refl, refl)))))))))))
+    (inl (_, refl)))))))))))
   where
     Q : Answer → Type 0
     Q = Fair (ear e)
 
 close-fair : (net : Network) (es : Ears) → Fair close (closing net (used net es))
 unfolding closing
-close-fair net es = check-either (Fair close) 23 _ _ _ (λ k l. inr (23, k, refl, inr refl)) (inl ([], refl, refl))
+close-fair net es = check-either (Fair close) 23 _ _ _ (λ k l. inr (23, k, refl, inr refl)) (inl ([], refl))
 
 -- a refusal leaves the state
 abbrev Kept : Call → State → Outcome State → Type 0
-Kept c s o = ((vs : List ℕ) × (o .answer ≡ given vs) × (length vs ≡ values c)) ⊎ ((num place : ℕ) × (o .answer ≡ refused num place) × Refusal c num place × (o .after ≡ s))
+Kept c s o = ((vs : List ℕ) × (o .answer ≡ given vs)) ⊎ ((num place : ℕ) × (o .answer ≡ refused num place) × Refusal c num place × (o .after ≡ s))
 
 kept : (c : Call) (old next : State) (a : Answer) → Fair c a → Kept c old (settle old next a)
 unfolding settle granted
@@ -72,9 +71,9 @@ calls (closed net es) (ear e) = kept (ear e) _ _ _ (inr (22, 0, refl, inl ((3, o
 calls empty close = kept close _ _ _ (inr (19, 0, refl, inl ((0, omega arith, refl), refl)))
 calls (opened net es) close = kept close _ _ _ (close-fair net es)
 calls (closed net es) close = kept close _ _ _ (inr (22, 0, refl, inl ((1, omega arith, refl), refl)))
-calls empty clear = kept clear _ _ _ (inl ([], refl, refl))
-calls (opened net es) clear = kept clear _ _ _ (inl ([], refl, refl))
-calls (closed net es) clear = kept clear _ _ _ (inl ([], refl, refl))
+calls empty clear = kept clear _ _ _ (inl ([], refl))
+calls (opened net es) clear = kept clear _ _ _ (inl ([], refl))
+calls (closed net es) clear = kept clear _ _ _ (inl ([], refl))
 
 -- an answer of one value, or a refusal with one of the numbers
 abbrev One : List ℕ → Answer → Type 0

@@ -11,7 +11,7 @@ use lib.Seq.{take-length}
 use Rattle.mondschein.specs.Network.{Network, at, holds, size, Proper, Ears, earAt, born, birth, used}
 use Rattle.mondschein.specs.Order.{position, order, course, parentOf}
 use Rattle.mondschein.specs.Routes.{OrderRules, Inserted, Course, TableRules}
-use Rattle.mondschein.specs.Demands.{Ordered, ShortEar, AnyThird}
+use Rattle.mondschein.specs.Demands.{ShortEar, AnyThird}
 use Rattle.mondschein.proofs.Logic.{which, clash, less?}
 use Rattle.mondschein.proofs.Lists.{at-same, holds-in, in-holds}
 use Rattle.mondschein.proofs.Checks.{Passed}
@@ -22,7 +22,7 @@ use Rattle.mondschein.proofs.Trees.{all-born, third-rule, third-lowest,
 use Rattle.mondschein.proofs.Complete.{complete, complete-used}
 
 module _ (net : Network) (es : Ears) (acc : Passing net es) where
-  order-rules : 0 < length es → OrderRules net es
+  pub order-rules : 0 < length es → OrderRules net es
   order-rules l =
       record {
         starts = order-one net es acc l;
@@ -41,9 +41,6 @@ module _ (net : Network) (es : Ears) (acc : Passing net es) where
       inserts : (i : ℕ) → 0 < i → i < length es → Inserted (order (take i es)) (earAt es i) (order (take (suc i) es))
       inserts zero z b = absurd (omega arith)
       inserts (suc i) z b = rw (order-suc es (suc i) b) (extend-rule _ _ (later-fits net es acc i b (grown net es acc (suc i) (omega arith))))
-
-pub ordered : Ordered
-ordered net es l a = order-rules net es (accepted-passing net es a) l
 
 module _ (net : Network) (proper : Proper net) (es : Ears) (acc : Passing net es) (done : (l : ℕ) → l < size net → used net es l ≡ true) where
   course-rule : (i : ℕ) → i < length es → Course net es i (course es i)

@@ -2,23 +2,16 @@
 -- proofs/Demand1.antt, Demand2.antt and Demand3.antt show them of the machine of document 01.
 use mathlib.Core.Path.{_≡_}
 use mathlib.Core.Logic.{_⊎_, _↔_}
-use mathlib.Core.Bool.{true}
+use mathlib.Core.Bool.{true, false}
 use mathlib.Core.List.{List, [], _∷_, _++_, reverse, map}
 use Prim.Native.Nat.{ℕ, _≤_, _<_}
 use lib.ListN.{length, drop}
-use Rattle.mondschein.specs.Network.{Network, In, size, Proper, Ears, born, birth, newSwitches}
+use Rattle.mondschein.specs.Network.{Network, In, size, Proper, Ears, born, birth, newSwitches, longEars, longBirth}
 use Rattle.mondschein.specs.Judge.{given, refused, Accepted}
 use Rattle.mondschein.specs.Order.{order, parent1, parent2}
 use Rattle.mondschein.specs.Machine.{empty, opened, closed, Call, load, ear, close, clear, orderOf, Program, machine, history, session}
 use Rattle.mondschein.specs.Mondschein.{Contains, Mondschein}
 use Rattle.mondschein.specs.Routes.{Tree, ThreeRoutes, OrderRules, Third, TableRules}
-
--- how many values a call gives
-abbrev pub values : Call → ℕ
-values (load net) = 2
-values (ear e) = 1
-values close = 0
-values clear = 0
 
 -- the numbers that a call refuses with, and the places told with them
 abbrev pub Refusal : Call → ℕ → ℕ → Type 0
@@ -31,9 +24,17 @@ Refusal clear num place = ⊥
 abbrev pub StateIsHistory : Type 0
 StateIsHistory = (cs : List Call) → session machine cs ≡ history machine cs
 
--- the order of an accepted list, and what a short ear leaves
+-- the bounds of an accepted list, and births by long ear: they compare as births by ear do
+pub record Bounded (net : Network) (es : Ears) : Type 0 where
+  pub switches : length (order es) ≤ net .n
+  pub longs : longEars es ≤ net .n
+  pub ears : length es ≤ size net
+  pub unborn : (x : ℕ) → (longBirth es x ≡ 0) ↔ (born es x ≡ false)
+  pub births : (x y : ℕ) → born es x ≡ true → born es y ≡ true → (longBirth es x < longBirth es y) ↔ (birth es x < birth es y)
+
+-- the order and the bounds of an accepted list, and what a short ear leaves
 abbrev pub Ordered : Type 0
-Ordered = (net : Network) (es : Ears) → 0 < length es → Accepted net es → OrderRules net es
+Ordered = (net : Network) (es : Ears) → 0 < length es → Accepted net es → OrderRules net es × Bounded net es
 
 abbrev pub ShortEar : Type 0
 ShortEar =
@@ -51,7 +52,7 @@ module _ (prog : Program) where
   -- Demand 1, on any session and any arguments: a call gives its values, or one of its refusals, which leaves all as it was
   pub record Demand1 : Type 0 where
     pub calls : (s : prog .Session) (c : Call)
-        → ((vs : List ℕ) × (prog .answer s c ≡ given vs) × (length vs ≡ values c))
+        → ((vs : List ℕ) × (prog .answer s c ≡ given vs))
         ⊎ ((num place : ℕ) × (prog .answer s c ≡ refused num place) × Refusal c num place × (prog .after s c ≡ s))
     pub parents : (s : prog .Session) (v t : ℕ)
         → ((x : ℕ) × (prog .parent s v t ≡ given (x ∷ []))) ⊎ ((num : ℕ) × (prog .parent s v t ≡ refused num 0) × In (17 ∷ 19 ∷ 21 ∷ []) num)

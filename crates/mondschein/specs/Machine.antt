@@ -74,17 +74,15 @@ orderOf empty = []
 orderOf (opened net es) = order es
 orderOf (closed net es) = order es
 
--- a session with its calls, as a caller sees them
+-- a session with its calls, as a caller sees them: the session after a call and its answer; parent and walk, of a switch, a tree and a
+-- lent slice, which only read; and the order of switches that it keeps
 pub record Program : Type 1 where
   pub Session : Type 0
   pub fresh : Session
-  -- the session after a call, and what the call answers
   pub after : Session → Call → Session
   pub answer : Session → Call → Answer
-  -- the calls that only read: switch, tree and, for a walk, the lent slice
   pub parent : Session → ℕ → ℕ → Answer
   pub walk : Session → ℕ → ℕ → List ℕ → Outcome (List ℕ)
-  -- the order of switches that the session keeps
   pub order : Session → List ℕ
 
 -- the machine of document 01

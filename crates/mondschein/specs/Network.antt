@@ -82,8 +82,7 @@ module _ (net : Network) where
   unfoldable pub linkOf : ℕ → ℕ → ℕ
   linkOf a b = low (λ i. joins i a b) size
 
-  -- the network is one of document 01: its limits, whole links between different switches, no pair twice, three different
-  -- named switches, links root-first and root-last
+  -- the network is one of document 01: its limits, its links and its three named switches
   pub record Proper : Type 0 where
     pub switches : (4 ≤ net .n) × (net .n ≤ 1024)
     pub whole : length (net .links) ≡ 2 * size
