@@ -80,8 +80,8 @@ module _ (net : Network) (es : Ears) (e : List ℕ) (p : Passed net es false e) 
   unfolding newSwitches
   same-count = count-ext _ _ (net .n) (λ x _. ap (λ (h : Bool). h && not (born es x)) (holds-reverse e x))
 
--- two lists of ears that nothing tells apart
-record Twins (net : Network) (es es′ : Ears) : Type 0 where
+-- two lists of ears with the same births, used links, order and tables
+record Equivalent (net : Network) (es es′ : Ears) : Type 0 where
   lengths : length es ≡ length es′
   borns : (x : ℕ) → born es x ≡ born es′ x
   births : (x : ℕ) → birth es x ≡ birth es′ x
@@ -90,8 +90,8 @@ record Twins (net : Network) (es es′ : Ears) : Type 0 where
   firsts : (x : ℕ) → born es x ≡ true → parent1 net es x ≡ parent1 net es′ x
   seconds : (x : ℕ) → born es x ≡ true → parent2 net es x ≡ parent2 net es′ x
 
-itself : (net : Network) (es : Ears) → Twins net es es
-itself net es =
+equivalent-itself : (net : Network) (es : Ears) → Equivalent net es es
+equivalent-itself net es =
     record {
       lengths = refl;
       borns = λ x. refl;
@@ -106,8 +106,8 @@ itself net es =
 abbrev directed : Ears → List ℕ → List ℕ
 directed es e = cond (eqb (length es) 0) e (fromA (order es) e)
 
--- twins stay twins with one more ear, in two writings with the same switches, links and direction
-module _ (net : Network) (es es′ : Ears) (tw : Twins net es es′) (e e′ : List ℕ) (hs : (x : ℕ) → holds e x ≡ holds e′ x)
+-- equivalent lists stay equivalent with one more ear, in two writings with the same switches, links and direction
+module _ (net : Network) (es es′ : Ears) (tw : Equivalent net es es′) (e e′ : List ℕ) (hs : (x : ℕ) → holds e x ≡ holds e′ x)
     (ps : (l : ℕ) → passes net (trail (eqb (length es) 0) e) l ≡ passes net (trail (eqb (length es′) 0) e′) l) (ds : directed es e ≡ directed es′ e′)
     (xs : extend (order es) e ≡ extend (order es′) e′) where
   abbrev more : Ears
@@ -169,7 +169,7 @@ module _ (net : Network) (es es′ : Ears) (tw : Twins net es es′) (e e′ : L
       (same? x (net .root)))
       (which (born es x))
 
-  grow : Twins net more more′
+  grow : Equivalent net more more′
   grow =
       record {
         lengths = more-lengths;
@@ -182,21 +182,21 @@ module _ (net : Network) (es es′ : Ears) (tw : Twins net es es′) (e e′ : L
       }
 
 module _ (net : Network) where
-  -- the same ear after twins
-  grow-same : (es es′ : Ears) → Twins net es es′ → (e : List ℕ) → Twins net (es ++ (e ∷ [])) (es′ ++ (e ∷ []))
+  -- the same ear after equivalent lists
+  grow-same : (es es′ : Ears) → Equivalent net es es′ → (e : List ℕ) → Equivalent net (es ++ (e ∷ [])) (es′ ++ (e ∷ []))
   grow-same es es′ tw e =
       grow net es es′ tw e e (λ x. refl) (λ l. ap (λ (n : ℕ). passes net (trail (eqb n 0) e) l) (tw .lengths))
       (ap₂ (λ (n : ℕ) (o : List ℕ). cond (eqb n 0) e (fromA o e)) (tw .lengths) (tw .orders))
       (ap (λ (o : List ℕ). extend o e) (tw .orders))
 
   -- a later ear in its two writings
-  grow-turned : (es : Ears) → Passing net es → 0 < length es → (e : List ℕ) → Passed net es false e → Twins net (es ++ (e ∷ [])) (es ++ (reverse e ∷ []))
+  grow-turned : (es : Ears) → Passing net es → 0 < length es → (e : List ℕ) → Passed net es false e → Equivalent net (es ++ (e ∷ [])) (es ++ (reverse e ∷ []))
   unfolding trail
   grow-turned es acc l e p =
       let f = next-fits net es acc e p in
       let c = fromA-reverse (order es) e f in
       let o : 0 < length (order es) = order-some net es acc l in
-      grow net es es (itself net es) e (reverse e) (λ x. sym (holds-reverse e x))
+      grow net es es (equivalent-itself net es) e (reverse e) (λ x. sym (holds-reverse e x))
       (λ i. rw (ne-eqb (length es) 0 (omega arith)) (sym (passes-reverse net e i)))
       (rw (ne-eqb (length es) 0 (omega arith)) (sym c))
       (extend-is (order es) e o ∙ ap (λ (z : List ℕ). put (order es) (between z) (suc (position (order es) (at z 0)))) (sym c) ∙ sym (extend-is (order es) (reverse e) o))
@@ -212,12 +212,12 @@ module _ (net : Network) (v t : ℕ) (k : unknown net v t 0 ≡ false) where
   known-tree = let (a, b) = or-false (ltb t 1) _ (or-false (leb (net .n) v) _ k .1) in (ltb-false t 1 a, ltb-false 3 t b)
 
 -- states that nothing tells apart
-data Same : State → State → Type 0 where
-  same : {s : State} → Same s s
-  opens : {net : Network} {es es′ : Ears} → Twins net es es′ → Same (opened net es) (opened net es′)
-  closes : {net : Network} {es es′ : Ears} → Twins net es es′ → Same (closed net es) (closed net es′)
+data Bisimilar : State → State → Type 0 where
+  same : {s : State} → Bisimilar s s
+  opens : {net : Network} {es es′ : Ears} → Equivalent net es es′ → Bisimilar (opened net es) (opened net es′)
+  closes : {net : Network} {es es′ : Ears} → Equivalent net es es′ → Bisimilar (closed net es) (closed net es′)
 
-module _ (net : Network) (es es′ : Ears) (tw : Twins net es es′) where
+module _ (net : Network) (es es′ : Ears) (tw : Equivalent net es es′) where
   same-judge : (e : List ℕ) → judge net es e ≡ judge net es′ e
   unfolding judge
   same-judge e =
@@ -264,7 +264,7 @@ module _ (net : Network) (es es′ : Ears) (tw : Twins net es es′) where
         (same-walk t v (known-tree net v t k) (known-below net v t k)))
         (which (unknown net v t 0))
 
-same-answer : {s s′ : State} → Same s s′ → (c : Call) → step s c .answer ≡ step s′ c .answer
+same-answer : {s s′ : State} → Bisimilar s s′ → (c : Call) → step s c .answer ≡ step s′ c .answer
 unfolding step settle
 same-answer same c = refl
 same-answer (opens tw) (load net) = refl
@@ -276,15 +276,15 @@ same-answer (closes tw) (ear e) = refl
 same-answer (closes tw) close = refl
 same-answer (closes tw) clear = refl
 
-same-settle : {s s′ n n′ : State} (a a′ : Answer) → a ≡ a′ → Same s s′ → Same n n′ → Same (settle s n a .after) (settle s′ n′ a′ .after)
+same-settle : {s s′ n n′ : State} (a a′ : Answer) → a ≡ a′ → Bisimilar s s′ → Bisimilar n n′ → Bisimilar (settle s n a .after) (settle s′ n′ a′ .after)
 unfolding settle
-same-settle {s} {s′} {n} {n′} a a′ e x y = subst (λ (z : Answer). Same (settle s n a .after) (settle s′ n′ z .after)) e (go (granted a))
+same-settle {s} {s′} {n} {n′} a a′ e x y = subst (λ (z : Answer). Bisimilar (settle s n a .after) (settle s′ n′ z .after)) e (go (granted a))
   where
-    go : (b : Bool) → Same (cond b n s) (cond b n′ s′)
+    go : (b : Bool) → Bisimilar (cond b n s) (cond b n′ s′)
     go true = y
     go false = x
 
-same-after : {s s′ : State} → Same s s′ → (c : Call) → Same (step s c .after) (step s′ c .after)
+same-after : {s s′ : State} → Bisimilar s s′ → (c : Call) → Bisimilar (step s c .after) (step s′ c .after)
 unfolding step settle granted
 same-after same c = same
 same-after (opens tw) (load net) = opens tw
@@ -297,7 +297,7 @@ same-after (closes tw) close = closes tw
 same-after (closes tw) clear = same
 
 -- of reached states every answer is the same
-same-alike : {s s′ : State} → Same s s′ → Reached s → Alike machine s s′
+same-alike : {s s′ : State} → Bisimilar s s′ → Reached s → Alike machine s s′
 unfolding orderOf parentCall walkCall Reached
 same-alike same r = record { calls = λ c. refl; parents = λ v t. refl; walks = λ v t out. refl; orders = refl }
 same-alike (opens tw) r = record { calls = same-answer (opens tw); parents = λ v t. refl; walks = λ v t out. refl; orders = tw .orders }
@@ -310,7 +310,7 @@ same-alike (closes {net} {es} {es′} tw) (proper, a, u) =
       orders = tw .orders;
     }
 
-same-run : (ds : List Call) {s s′ : State} → Same s s′ → Same (foldl (machine .after) s ds) (foldl (machine .after) s′ ds)
+same-run : (ds : List Call) {s s′ : State} → Bisimilar s s′ → Bisimilar (foldl (machine .after) s ds) (foldl (machine .after) s′ ds)
 same-run [] x = x
 same-run (d ∷ ds) x = same-run ds (same-after x d)
 

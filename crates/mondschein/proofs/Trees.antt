@@ -92,18 +92,18 @@ module _ (net : Network) (proper : Proper net) (es : Ears) (acc : Passing net es
       (inr (o .sound _ (g .start)), inr (o .sound _ (g .end)))
 
   -- where a switch stands in the course of its birth ear
-  abbrev way : ℕ → List ℕ
-  way x = course es (birth es x)
+  abbrev birthCourse : ℕ → List ℕ
+  birthCourse x = course es (birth es x)
 
-  abbrev spot : ℕ → ℕ
-  spot x = position (way x) x
+  abbrev birthIndex : ℕ → ℕ
+  birthIndex x = position (birthCourse x) x
 
   record Stands (x : ℕ) : Type 0 where
     bounds : birth es x < length es
-    here : at (way x) (spot x) ≡ x
-    inside : spot x < length (way x)
-    after : 0 < spot x
-    before : (x ≡ net .first) ⊎ (suc (spot x) < length (way x))
+    here : at (birthCourse x) (birthIndex x) ≡ x
+    inside : birthIndex x < length (birthCourse x)
+    after : 0 < birthIndex x
+    before : (x ≡ net .first) ⊎ (suc (birthIndex x) < length (birthCourse x))
 
   stands : (x : ℕ) → x < net .n → x ≢ net .root → Stands x
   stands x m d = record { bounds = b; here = h .1; inside = h .0; after = lower; before = upper }
@@ -111,29 +111,29 @@ module _ (net : Network) (proper : Proper net) (es : Ears) (acc : Passing net es
       b : birth es x < length es
       b = birth-lt es x (all-born x m)
 
-      h : (spot x < length (way x)) × (at (way x) (spot x) ≡ x)
-      h = position-at (way x) x (turned-on (earAt es (birth es x)) (way x) (course-turned net es acc (birth es x)) x (birth-held es x (all-born x m)))
+      h : (birthIndex x < length (birthCourse x)) × (at (birthCourse x) (birthIndex x) ≡ x)
+      h = position-at (birthCourse x) x (turned-on (earAt es (birth es x)) (birthCourse x) (course-turned net es acc (birth es x)) x (birth-held es x (all-born x m)))
 
-      old : (k : ℕ) → spot x ≡ k → born (take (birth es x) es) (at (way x) k) ≡ true → ⊥
-      old k q t = not-before es x (ap (born (take (birth es x) es)) (sym (h .1) ∙ at-same (way x) _ _ q) ∙ t)
+      old : (k : ℕ) → birthIndex x ≡ k → born (take (birth es x) es) (at (birthCourse x) k) ≡ true → ⊥
+      old k q t = not-before es x (ap (born (take (birth es x) es)) (sym (h .1) ∙ at-same (birthCourse x) _ _ q) ∙ t)
 
-      lower : 0 < spot x
+      lower : 0 < birthIndex x
       lower =
           ⊎-elim
           (λ l. l)
-          (λ (l : spot x ≤ 0).
-          let q : spot x ≡ 0 = omega arith in
-          absurd (⊎-elim (λ e. d (sym (h .1) ∙ at-same (way x) _ _ q ∙ e)) (old 0 q) (course-ends (birth es x) b .0)))
-          (less? 0 (spot x))
+          (λ (l : birthIndex x ≤ 0).
+          let q : birthIndex x ≡ 0 = omega arith in
+          absurd (⊎-elim (λ e. d (sym (h .1) ∙ at-same (birthCourse x) _ _ q ∙ e)) (old 0 q) (course-ends (birth es x) b .0)))
+          (less? 0 (birthIndex x))
 
-      upper : (x ≡ net .first) ⊎ (suc (spot x) < length (way x))
+      upper : (x ≡ net .first) ⊎ (suc (birthIndex x) < length (birthCourse x))
       upper =
           ⊎-elim
           inr
-          (λ (l : length (way x) ≤ suc (spot x)).
-          let q : spot x ≡ pred (length (way x)) = omega (arith, h .0) in
-          inl (⊎-elim (λ e. sym (h .1) ∙ at-same (way x) _ _ q ∙ e) (λ t. absurd (old _ q t)) (course-ends (birth es x) b .1)))
-          (less? (suc (spot x)) (length (way x)))
+          (λ (l : length (birthCourse x) ≤ suc (birthIndex x)).
+          let q : birthIndex x ≡ pred (length (birthCourse x)) = omega (arith, h .0) in
+          inl (⊎-elim (λ e. sym (h .1) ∙ at-same (birthCourse x) _ _ q ∙ e) (λ t. absurd (old _ q t)) (course-ends (birth es x) b .1)))
+          (less? (suc (birthIndex x)) (length (birthCourse x)))
 
   abbrev s : ℕ → ℕ
   s = position (order es)
@@ -160,18 +160,18 @@ module _ (net : Network) (proper : Proper net) (es : Ears) (acc : Passing net es
   unfolding parent1
   down x m d =
       let st = stands x m d in
-      let q : suc (pred (spot x)) ≡ spot x = omega (arith, st .after) in
+      let q : suc (pred (birthIndex x)) ≡ birthIndex x = omega (arith, st .after) in
       rw (ne-eqb x (net .root) d)
-      (subst (λ (z : ℕ). Next (birth es x) (at (way x) (pred (spot x))) z) (at-same (way x) _ _ q ∙ st .here)
-      (next (birth es x) (pred (spot x)) (st .bounds) (omega (arith, st .inside, st .after))))
+      (subst (λ (z : ℕ). Next (birth es x) (at (birthCourse x) (pred (birthIndex x))) z) (at-same (birthCourse x) _ _ q ∙ st .here)
+      (next (birth es x) (pred (birthIndex x)) (st .bounds) (omega (arith, st .inside, st .after))))
 
   upward : (x : ℕ) → x < net .n → x ≢ net .root → x ≢ net .first → Next (birth es x) x (parent2 net es x)
   unfolding parent2
   upward x m d f =
       let st = stands x m d in
       rw (ne-eqb x (net .root) d, ne-eqb x (net .first) f)
-      (subst (λ (a : ℕ). Next (birth es x) a (at (way x) (suc (spot x)))) (st .here)
-      (next (birth es x) (spot x) (st .bounds) (⊎-elim (λ e. absurd (f e)) (λ l. l) (st .before))))
+      (subst (λ (a : ℕ). Next (birth es x) a (at (birthCourse x) (suc (birthIndex x)))) (st .here)
+      (next (birth es x) (birthIndex x) (st .bounds) (⊎-elim (λ e. absurd (f e)) (λ l. l) (st .before))))
 
   later-neighbour : (x : ℕ) → x < net .n → x ≢ net .last → (y : ℕ) × (y < net .n) × (joined net x y ≡ true) × (birth es x < birth es y)
   later-neighbour x m f =
@@ -277,19 +277,19 @@ module _ (net : Network) (proper : Proper net) (es : Ears) (acc : Passing net es
       (which (isNew (eqb i 0) (length e) j))
 
   -- the entry in tree 1 stands just before the switch
-  pub before : (x : ℕ) → x < net .n → x ≢ net .root → (k : ℕ) × (suc k < length (way x)) × (at (way x) k ≡ parent1 net es x) × (at (way x) (suc k) ≡ x)
+  pub before : (x : ℕ) → x < net .n → x ≢ net .root → (k : ℕ) × (suc k < length (birthCourse x)) × (at (birthCourse x) k ≡ parent1 net es x) × (at (birthCourse x) (suc k) ≡ x)
   unfolding parent1
   before x m d =
       let st = stands x m d in
-      let q : suc (pred (spot x)) ≡ spot x = omega (arith, st .after) in
-      (pred (spot x), omega (arith, st .inside, st .after), rw (ne-eqb x (net .root) d), at-same (way x) _ _ q ∙ st .here)
+      let q : suc (pred (birthIndex x)) ≡ birthIndex x = omega (arith, st .after) in
+      (pred (birthIndex x), omega (arith, st .inside, st .after), rw (ne-eqb x (net .root) d), at-same (birthCourse x) _ _ q ∙ st .here)
 
   -- and the entry in tree 2 just after it
-  pub after : (x : ℕ) → x < net .n → x ≢ net .root → x ≢ net .first → (k : ℕ) × (suc k < length (way x)) × (at (way x) k ≡ x) × (at (way x) (suc k) ≡ parent2 net es x)
+  pub after : (x : ℕ) → x < net .n → x ≢ net .root → x ≢ net .first → (k : ℕ) × (suc k < length (birthCourse x)) × (at (birthCourse x) k ≡ x) × (at (birthCourse x) (suc k) ≡ parent2 net es x)
   unfolding parent2
   after x m d f =
       let st = stands x m d in
-      (spot x, ⊎-elim (λ e. absurd (f e)) (λ l. l) (st .before), st .here, rw (ne-eqb x (net .root) d, ne-eqb x (net .first) f))
+      (birthIndex x, ⊎-elim (λ e. absurd (f e)) (λ l. l) (st .before), st .here, rw (ne-eqb x (net .root) d, ne-eqb x (net .first) f))
 
   module _ (p : ℕ → ℕ → ℕ) (e₁ : (v : ℕ) → p 1 v ≡ parent1 net es v) (e₂ : (v : ℕ) → p 2 v ≡ parent2 net es v) (e₃ : Third net es (p 3)) where
     third-cases : (x : ℕ) → x < net .n → x ≢ net .root → ((x ≡ net .last) × (p 3 x ≡ net .root)) ⊎ LaterBorn net es x (p 3 x)
