@@ -5,7 +5,7 @@ use mathlib.Core.List.{List, [], _∷_, _++_, map, reverse}
 use Prim.Native.Nat.{ℕ}
 use lib.ListN.{length, take, drop, replicate}
 use Rattle.mondschein.specs.Network.{low, any, Network, holds, size, former, latter, joins, joined, passes, linkOf, Ears, born, birth, trail, used, isNew, newCount}
-use Rattle.mondschein.specs.Judge.{Answer, given, refused, check, wrongSize, linkTooLarge, selfLink, repeatedLink, wrongNames, missingLink, loading, wrongLength, tooLarge, repeated, notJoined, usedAlready, wrongCycle, unbornEnd, bornBetween, otherNew, otherUnborn, rootEnd, lastEarly, noneUnborn, verdict, judge, closing}
+use Rattle.mondschein.specs.Judge.{Answer, given, refused, check, wrongSize, linkTooLarge, selfLink, repeatedLink, wrongNames, missingLink, loading, wrongLength, tooLarge, repeated, notJoined, usedAlready, wrongCycle, unbornEnd, bornBetween, otherNew, otherUnborn, rootEnd, lastMisplaced, noneUnborn, verdict, judge, closing}
 use Rattle.mondschein.specs.Order.{position, fromA, between, extend, order, course, parent1, parent2, parent3By, parentOf, walkBy, walkOf}
 use Rattle.mondschein.specs.Machine.{State, empty, opened, closed, Call, load, ear, close, clear, granted, settle, step, unknown, parentCall, walkCall, orderOf, machine, session}
 
@@ -20,7 +20,7 @@ said rows = map (λ r. r .1) rows
 
 -- the answers of calls made one after another; to unfold this is to unfold the judge
 answers : State → List Call → List Answer
-unfolding low any holds size former latter joins joined passes linkOf born trail used isNew newCount check wrongSize linkTooLarge selfLink repeatedLink wrongNames missingLink loading wrongLength tooLarge repeated notJoined usedAlready wrongCycle unbornEnd bornBetween otherNew otherUnborn rootEnd lastEarly noneUnborn verdict judge closing granted settle step
+unfolding low any holds size former latter joins joined passes linkOf born trail used isNew newCount check wrongSize linkTooLarge selfLink repeatedLink wrongNames missingLink loading wrongLength tooLarge repeated notJoined usedAlready wrongCycle unbornEnd bornBetween otherNew otherUnborn rootEnd lastMisplaced noneUnborn verdict judge closing granted settle step
 answers s [] = []
 answers s (c ∷ cs) = step s c .answer ∷ answers (step s c .after) cs
 

@@ -159,8 +159,8 @@ module _ (net : Network) (es : Ears) where
     ear-two i l = two (eqb i 0) (acc i l)
       where
         two : (b : Bool) → Passed net (take i es) b (earAt es i) → 2 ≤ length (earAt es i)
-        two true p = omega (arith, p .long)
-        two false p = p .long
+        two true p = omega (arith, p .atLeast)
+        two false p = p .atLeast
 
     -- in its birth ear a switch is new
     pub birth-isNew : (x k : ℕ) → born es x ≡ true → k < length (earAt es (birth es x)) → at (earAt es (birth es x)) k ≡ x → isNew (eqb (birth es x) 0) (length (earAt es (birth es x))) k ≡ true

@@ -63,12 +63,12 @@ module _ (net : Network) (es : Ears) (acc : Passing net es) where
   brings zero l f =
       let p = first-passed net es acc l in
       let e = earAt es 0 in
-      (at e 0, p .below 0 (omega (arith, p .long)), ⊎-elim (λ t. let (j, m, _) = born-at [] (at e 0) t in absurd (omega arith)) (λ g. g) (which (born [] (at e 0))), holds-at e 0 (omega (arith, p .long)))
+      (at e 0, p .below 0 (omega (arith, p .atLeast)), ⊎-elim (λ t. let (j, m, _) = born-at [] (at e 0) t in absurd (omega arith)) (λ g. g) (which (born [] (at e 0))), holds-at e 0 (omega (arith, p .atLeast)))
   brings (suc i) l f =
       let p = later-passed net es acc i l in
       let e = earAt es (suc i) in
       let d = eqb-false (length e) 2 (not-true _ f) in
-      let c : 2 < length e = omega (arith, p .long) in
+      let c : 2 < length e = omega (arith, p .atLeast) in
       (at e 1, p .below 1 (omega arith), p .inner refl 1 (omega arith) c, holds-at e 1 (omega arith))
 
   long-born : (i : ℕ) → i ≤ length es → count isLong i ≤ count (born (take i es)) (net .n)
@@ -101,7 +101,7 @@ module _ (net : Network) (es : Ears) (acc : Passing net es) where
   birth-long x h =
       let b = birth-lt es x h in
       let (k, l, q) = holds-in (earAt es (birth es x)) x (birth-held es x h) in
-      let (_, d) = new-long es (birth es x) x b (first-passed net es acc (omega arith) .long) (k, l, birth-isNew net es acc x k h l q, q) in
+      let (_, d) = new-long es (birth es x) x b (first-passed net es acc (omega arith) .atLeast) (k, l, birth-isNew net es acc x k h l q, q) in
       ap not (ne-eqb _ 2 d)
 
   long-birth : (x : ℕ) → born es x ≡ true → longBirth es x ≡ suc (count isLong (birth es x))

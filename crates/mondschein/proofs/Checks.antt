@@ -10,7 +10,7 @@ use lib.Dec.{eqb, ltb}
 use lib.ListN.{length}
 use borrow.Author.Tests.{ltb-true, ltb-false, lt-ltb, le-ltb, leb-false, lt-leb, eqb-true, eqb-false, eq-eqb, ne-eqb, not-true, not-false}
 use Rattle.mondschein.specs.Network.{low, any, Network, at, Simple, holds, joined, linkOf, Ears, born, used, isNew, newCount}
-use Rattle.mondschein.specs.Judge.{Answer, given, refused, check, wrongLength, tooLarge, repeated, notJoined, usedAlready, wrongCycle, unbornEnd, bornBetween, otherNew, otherUnborn, rootEnd, lastEarly, noneUnborn, verdict}
+use Rattle.mondschein.specs.Judge.{Answer, given, refused, check, wrongLength, tooLarge, repeated, notJoined, usedAlready, wrongCycle, unbornEnd, bornBetween, otherNew, otherUnborn, rootEnd, lastMisplaced, noneUnborn, verdict}
 use Rattle.mondschein.proofs.Logic.{clash, less?, trichotomy, and-true, true-and, or-false, and-false, false-and, false-or}
 use Rattle.mondschein.proofs.Search.{low-is, low-stop, low-none, any-true, any-false, true-any, false-any}
 
@@ -61,7 +61,7 @@ check-refused num c bad vs num′ place e = go (ltb (low bad c) c) refl e
 
 -- what the checks say of an ear that passes them all, one fact or two for each
 pub record Passed (net : Network) (es : Ears) (b : Bool) (e : List ℕ) : Type 0 where
-  pub long : cond b 3 2 ≤ length e
+  pub atLeast : cond b 3 2 ≤ length e
   pub fits : length e ≤ net .n
   pub below : (k : ℕ) → k < length e → at e k < net .n
   pub simple : Simple e
@@ -100,7 +100,7 @@ new-end c k (inr z) = false-and (ltb 0 k) _ (λ t. le-ltb (suc k) c (omega arith
 
 module _ (net : Network) (es : Ears) (b : Bool) (e : List ℕ) where
   pub given-passed : (vs : List ℕ) → verdict net (born es) (used net es) b e ≡ given vs → Passed net es b e
-  unfolding verdict wrongLength tooLarge repeated notJoined usedAlready wrongCycle unbornEnd bornBetween lastEarly otherNew otherUnborn rootEnd noneUnborn
+  unfolding verdict wrongLength tooLarge repeated notJoined usedAlready wrongCycle unbornEnd bornBetween lastMisplaced otherNew otherUnborn rootEnd noneUnborn
   given-passed vs q =
       let (c7, q7) = check-given _ _ _ _ vs q in
       let (c8, q8) = check-given _ _ _ _ vs q7 in
@@ -113,10 +113,10 @@ module _ (net : Network) (es : Ears) (b : Bool) (e : List ℕ) where
       let (c15, q15) = check-given _ _ _ _ vs q14 in
       let (c16, q16) = check-given _ _ _ _ vs q15 in
       let (len, fit) = or-false (ltb (length e) (cond b 3 2)) _ (c7 0 (omega arith)) in
-      let long : cond b 3 2 ≤ length e = ltb-false _ _ len in
-      let two : 2 ≤ length e = enough b long in
+      let atLeast : cond b 3 2 ≤ length e = ltb-false _ _ len in
+      let two : 2 ≤ length e = enough b atLeast in
       record {
-        long = long;
+        atLeast = atLeast;
         fits = ltb-false _ _ fit;
         below = λ k l. leb-false (net .n) (at e k) (c8 k l);
         simple = λ j k l m h.
@@ -157,9 +157,9 @@ module _ (net : Network) (es : Ears) (b : Bool) (e : List ℕ) where
           (and-false _ _ (and-false (not b) _ (c k l) (ap not z)) (ap not (ap (λ (f : Bool). isNew f (length e) k) z ∙ new-end (length e) k w)))
 
   pub passed-given : Passed net es b e → verdict net (born es) (used net es) b e ≡ given (newCount b (length e) ∷ [])
-  unfolding verdict wrongLength tooLarge repeated notJoined usedAlready wrongCycle unbornEnd bornBetween lastEarly otherNew otherUnborn rootEnd noneUnborn
+  unfolding verdict wrongLength tooLarge repeated notJoined usedAlready wrongCycle unbornEnd bornBetween lastMisplaced otherNew otherUnborn rootEnd noneUnborn
   passed-given p =
-      check-pass _ _ _ _ (λ k l. false-or _ _ (le-ltb _ _ (p .long)) (le-ltb _ _ (p .fits)))
+      check-pass _ _ _ _ (λ k l. false-or _ _ (le-ltb _ _ (p .atLeast)) (le-ltb _ _ (p .fits)))
       ∙ check-pass _ _ _ _ (λ k l. lt-leb _ _ (p .below k l))
       ∙ check-pass _ _ _ _ (λ k l. false-any (λ j. eqb (at e j) (at e k)) k (λ j m. ne-eqb _ _ (λ q. let z = p .simple j k (omega arith) l q in omega arith)))
       ∙ check-pass _ _ _ _ (λ k l. ap not (p .linked k (omega arith)))

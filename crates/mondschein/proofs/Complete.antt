@@ -160,7 +160,7 @@ module _ (net : Network) (proper : Proper net) (P : Ears) (M : Mondschein net P)
   pub complete : Passing net P
   complete i b =
       record {
-        long = enough i b;
+        atLeast = enough i b;
         fits = simple-length (net .n) (earAt P i) (D .simple i b) (D .inside i b);
         below = λ k l. D .inside i b (at (earAt P i) k) (k, l, refl);
         simple = D .simple i b;

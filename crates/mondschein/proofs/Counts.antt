@@ -41,7 +41,7 @@ module _ (net : Network) (es : Ears) (e : List ℕ) where
 
   later-count : Passed net es false e → newSwitches net es e ≡ pred (pred (length e))
   unfolding isNew
-  later-count p = by-index false p ∙ count-ext _ (isNew false (length e)) (length e) same ∙ count-new (length e) (p .long)
+  later-count p = by-index false p ∙ count-ext _ (isNew false (length e)) (length e) same ∙ count-new (length e) (p .atLeast)
     where
       same : (k : ℕ) → k < length e → not (born es (at e k)) ≡ isNew false (length e) k
       same k l =

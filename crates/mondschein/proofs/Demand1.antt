@@ -1,13 +1,16 @@
 -- Demand 1 of the machine: each call gives its values, or a refusal of its own, after which the state and the slice are as they were.
 -- Each check is held to the numbers and places of its call.
-use mathlib.Core.Path.{_≡_, refl, ap}
+use mathlib.Core.Path.{_≡_, refl, ap, _∙_}
 use mathlib.Core.Logic.{_⊎_, inl, inr, ⊎-elim}
 use mathlib.Core.Bool.{cond}
 use mathlib.Core.List.{List, [], _∷_}
 use Prim.Native.Nat.{ℕ, _<_}
 use native.Mathlib.Omega.{arith}
+use lib.ListN.{drop}
+use lib.Seq.{drop-at}
 use Rattle.mondschein.specs.Network.{Network, In, Ears, used}
 use Rattle.mondschein.specs.Judge.{Answer, given, refused, loading, verdict, judge, closing}
+use Rattle.mondschein.specs.Order.{walkOf}
 use Rattle.mondschein.specs.Machine.{State, empty, opened, closed, Call, load, ear, close, clear, granted, Outcome, settle, step, parentCall, walkCall, machine}
 use Rattle.mondschein.specs.Demands.{Refusal, Demand1}
 use Rattle.mondschein.proofs.Checks.{check-either}
@@ -75,12 +78,12 @@ calls empty clear = kept clear _ _ _ (inl ([], refl))
 calls (opened net es) clear = kept clear _ _ _ (inl ([], refl))
 calls (closed net es) clear = kept clear _ _ _ (inl ([], refl))
 
--- an answer of one value, or a refusal with one of the numbers
-abbrev One : List ℕ → Answer → Type 0
-One nums a = ((x : ℕ) × (a ≡ given (x ∷ []))) ⊎ ((num : ℕ) × (a ≡ refused num 0) × In nums num)
+-- an answer of the value x, or a refusal with one of the numbers
+abbrev One : List ℕ → ℕ → Answer → Type 0
+One nums x a = (a ≡ given (x ∷ [])) ⊎ ((num : ℕ) × (a ≡ refused num 0) × In nums num)
 
-refused-at : (nums : List ℕ) (num k : ℕ) → k < 1 → In nums num → One nums (refused num k)
-refused-at nums num k l i = inr (num, ap (refused num) (let z : k ≡ 0 = omega arith in z), i)
+refused-at : (nums : List ℕ) (x num k : ℕ) → k < 1 → In nums num → One nums x (refused num k)
+refused-at nums x num k l i = inr (num, ap (refused num) (let z : k ≡ 0 = omega arith in z), i)
 
 abbrev parentNumbers : List ℕ
 parentNumbers = 17 ∷ 19 ∷ 21 ∷ []
@@ -88,27 +91,34 @@ parentNumbers = 17 ∷ 19 ∷ 21 ∷ []
 abbrev walkNumbers : List ℕ
 walkNumbers = 17 ∷ 18 ∷ 19 ∷ 21 ∷ []
 
-parents : (s : State) (v t : ℕ) → One parentNumbers (parentCall s v t)
+parents : (s : State) (v t : ℕ) → ((x : ℕ) × (parentCall s v t ≡ given (x ∷ []))) ⊎ ((num : ℕ) × (parentCall s v t ≡ refused num 0) × In parentNumbers num)
 unfolding parentCall
 parents empty v t = inr (19, refl, (1, omega arith, refl))
 parents (opened net es) v t = inr (21, refl, (2, omega arith, refl))
-parents (closed net es) v t = check-either (One parentNumbers) 17 _ _ _ (λ k l. refused-at parentNumbers 17 k l (0, omega arith, refl)) (inl (_, refl))
+parents (closed net es) v t =
+    ⊎-elim (λ e. inl (_, e)) inr
+    (check-either (One parentNumbers _) 17 _ _ _ (λ k l. refused-at parentNumbers _ 17 k l (0, omega arith, refl)) (inl refl))
 
--- a refusal leaves the slice
-untouched : (out next : List ℕ) (a : Answer) → One walkNumbers a
-    → ((c : ℕ) × (settle out next a .answer ≡ given (c ∷ []))) ⊎ ((num : ℕ) × (settle out next a ≡ record { answer = refused num 0; after = out }) × In walkNumbers num)
+-- what a walk call leaves: past its count all, after a refusal the slice
+abbrev Left : List ℕ → Outcome (List ℕ) → Type 0
+Left out o =
+    ((c : ℕ) × (o .answer ≡ given (c ∷ [])) × (drop c (o .after) ≡ drop c out)) ⊎ ((num : ℕ) × (o ≡ record { answer = refused num 0; after = out }) × In walkNumbers num)
+
+left : (out next : List ℕ) (c : ℕ) (a : Answer) → drop c next ≡ drop c out → One walkNumbers c a → Left out (settle out next a)
 unfolding settle granted
-untouched out next a f = ⊎-elim inl (λ (num, e, i). inr (num, ap (settle out next) e, i)) f
+left out next c a q =
+    ⊎-elim
+    (λ e. inl (c, e, ap (λ (b : Answer). drop c (settle out next b .after)) e ∙ q))
+    (λ (num, e, i). inr (num, ap (settle out next) e, i))
 
-walks : (s : State) (v t : ℕ) (out : List ℕ)
-    → ((c : ℕ) × (walkCall s v t out .answer ≡ given (c ∷ []))) ⊎ ((num : ℕ) × (walkCall s v t out ≡ record { answer = refused num 0; after = out }) × In walkNumbers num)
+walks : (s : State) (v t : ℕ) (out : List ℕ) → Left out (walkCall s v t out)
 unfolding walkCall
-walks empty v t out = untouched out out (refused 19 0) (inr (19, refl, (2, omega arith, refl)))
-walks (opened net es) v t out = untouched out out (refused 21 0) (inr (21, refl, (3, omega arith, refl)))
+walks empty v t out = left out out 0 (refused 19 0) refl (inr (19, refl, (2, omega arith, refl)))
+walks (opened net es) v t out = left out out 0 (refused 21 0) refl (inr (21, refl, (3, omega arith, refl)))
 walks (closed net es) v t out =
-    untouched out _ _
-    (check-either (One walkNumbers) 17 _ _ _ (λ k l. refused-at walkNumbers 17 k l (0, omega arith, refl))
-    (check-either (One walkNumbers) 18 _ _ _ (λ k l. refused-at walkNumbers 18 k l (1, omega arith, refl)) (inl (_, refl))))
+    left out _ _ _ (drop-at (walkOf net es t v) _ _ refl)
+    (check-either (One walkNumbers _) 17 _ _ _ (λ k l. refused-at walkNumbers _ 17 k l (0, omega arith, refl))
+    (check-either (One walkNumbers _) 18 _ _ _ (λ k l. refused-at walkNumbers _ 18 k l (1, omega arith, refl)) (inl refl)))
 
 pub demand1 : Demand1 machine
 demand1 = record { calls = calls; parents = parents; walks = walks }

@@ -21,7 +21,7 @@ writes net es =
       written = λ t v m l out h.
           ap (settle out (walkOf net es t v ++ drop (length (walkOf net es t v)) out))
           (check-pass 17 1 _ _ (known net es t v m l) ∙ check-pass 18 1 _ _ (λ k _. le-ltb _ _ h));
-      short = λ t v m l out h.
+      tooShort = λ t v m l out h.
           ap (settle out (walkOf net es t v ++ drop (length (walkOf net es t v)) out))
           (check-pass 17 1 _ _ (known net es t v m l) ∙ check-fail 18 _ _ (lt-ltb _ _ h));
     }
@@ -36,5 +36,5 @@ demand3 cs net es h =
       walkOf net es,
       subst (λ (s : State). Entries machine s net (parentOf net es)) back (entries net es),
       subst (λ (s : State). Writes machine s net (walkOf net es)) back (writes net es),
-      closed-routes net proper es acc u (parentOf net es) (λ v. refl) (λ v. refl) (third-rule net proper es acc u),
+      closed-routes net proper es acc u (parentOf net es) (λ v _. refl) (λ v _. refl) (third-rule net proper es acc u),
     )

@@ -39,10 +39,10 @@ module _ (net : Network) (es : Ears) (e : List ℕ) (p : Passed net es false e) 
   turned-at k l = at-reverse e k (omega (arith, turned-length))
 
   turned-first : at (reverse e) 0 ≡ at e (pred (length e))
-  turned-first = turned-at 0 (omega (arith, turned-length, p .long)) ∙ at-same e _ _ (omega arith)
+  turned-first = turned-at 0 (omega (arith, turned-length, p .atLeast)) ∙ at-same e _ _ (omega arith)
 
   turned-last : at (reverse e) (pred (length (reverse e))) ≡ at e 0
-  turned-last = turned-at _ (omega (arith, turned-length, p .long)) ∙ at-same e _ 0 (omega (arith, turned-length))
+  turned-last = turned-at _ (omega (arith, turned-length, p .atLeast)) ∙ at-same e _ 0 (omega (arith, turned-length))
 
   turned-next : (k : ℕ) → suc k < length (reverse e) → at (reverse e) k ≡ at e (suc (length e - suc (suc k)))
   turned-next k l = turned-at k (omega arith) ∙ at-same e _ _ (omega (arith, turned-length))
@@ -53,7 +53,7 @@ module _ (net : Network) (es : Ears) (e : List ℕ) (p : Passed net es false e) 
   passed-reverse : Passed net es false (reverse e)
   passed-reverse =
       record {
-        long = omega (arith, turned-length, p .long);
+        atLeast = omega (arith, turned-length, p .atLeast);
         fits = omega (arith, turned-length, p .fits);
         below = λ k l. rw (turned-at k l) (p .below _ (omega (arith, turned-length)));
         simple = λ j k l m h.
@@ -244,7 +244,7 @@ module _ (net : Network) (es es′ : Ears) (tw : Equivalent net es es′) where
       where
         below : (x : ℕ) → x < net .n → x ≢ net .root → parentOf net es t x < net .n
         below x k d =
-            adjacent-below net proper x _ (closed-routes net proper es acc done (parentOf net es) (λ v. refl) (λ v. refl) (third-rule net proper es acc done) .trees t m .linked x k d) .1
+            adjacent-below net proper x _ (closed-routes net proper es acc done (parentOf net es) (λ v _. refl) (λ v _. refl) (third-rule net proper es acc done) .trees t m .linked x k d) .1
 
     same-parents : (v t : ℕ) → parentCall (closed net es) v t ≡ parentCall (closed net es′) v t
     unfolding parentCall

@@ -35,7 +35,7 @@ module _ (net : Network) (es : Ears) (acc : Passing net es) where
   later-fits i l o =
       let p = later-passed net es acc i l in
       record {
-        two = p .long;
+        two = p .atLeast;
         simple = p .simple;
         start = o .full _ (p .ends refl .0);
         end = o .full _ (p .ends refl .1);
@@ -73,7 +73,7 @@ module _ (net : Network) (es : Ears) (acc : Passing net es) where
       (position-is (earAt es 0) _ k m refl (λ j h q. let d = (first-passed net es acc l) .simple j k (omega arith) m q in omega arith))
 
   pub root-held : 0 < length es → holds (earAt es 0) (net .root) ≡ true
-  root-held l = holds-by (earAt es 0) 0 _ (omega (arith, (first-passed net es acc l) .long)) ((first-passed net es acc l) .cycle refl .0)
+  root-held l = holds-by (earAt es 0) 0 _ (omega (arith, (first-passed net es acc l) .atLeast)) ((first-passed net es acc l) .cycle refl .0)
 
   grown-one : 0 < length es → Grown 1
   unfolding course
@@ -86,7 +86,7 @@ module _ (net : Network) (es : Ears) (acc : Passing net es) where
         rising = up;
         rooted = λ _.
             ap (position (order (take 1 es))) (sym ((first-passed net es acc l) .cycle refl .0))
-            ∙ first-at l 0 (omega (arith, (first-passed net es acc l) .long));
+            ∙ first-at l 0 (omega (arith, (first-passed net es acc l) .atLeast));
         ended = λ _. rw (order-one l) ((first-passed net es acc l) .cycle refl .1);
         simple = rw (order-one l) ((first-passed net es acc l) .simple);
       }
@@ -161,7 +161,7 @@ module _ (net : Network) (es : Ears) (acc : Passing net es) where
   pub next-fits : (e : List ℕ) → Passed net es false e → Fits (order es) e
   next-fits e p =
       record {
-        two = p .long;
+        two = p .atLeast;
         simple = p .simple;
         start = order-full _ (p .ends refl .0);
         end = order-full _ (p .ends refl .1);

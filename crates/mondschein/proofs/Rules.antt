@@ -52,7 +52,7 @@ module _ (net : Network) (proper : Proper net) (es : Ears) (acc : Passing net es
   unfolding parentOf
   table-rules =
       record {
-        root = λ t m. closed-routes net proper es acc done (parentOf net es) (λ v. refl) (λ v. refl) (third-rule net proper es acc done) .trees t m .rooted;
+        root = λ t m. closed-routes net proper es acc done (parentOf net es) (λ v _. refl) (λ v _. refl) (third-rule net proper es acc done) .trees t m .rooted;
         tree1 = λ v m d. let b = birth-birth es v (all-born net proper es acc done v m) in (birth es v, course es (birth es v), b, course-rule (birth es v) (b .below), before net proper es acc done v m d);
         tree2 = λ v m d f. let b = birth-birth es v (all-born net proper es acc done v m) in (birth es v, course es (birth es v), b, course-rule (birth es v) (b .below), after net proper es acc done v m d f);
         first2 = parent2-first net es (net .first) (λ z. proper .distinct .0 (sym z)) refl;

@@ -89,7 +89,7 @@ module _ (net : Network) (proper : Proper net) (P : Ears) (acc : Passing net P) 
   ended (suc j) l (b, n) =
       let e = earAt P (suc j) in
       let p = later-passed net P acc j b in
-      let three : 2 < length e = omega (arith, p .long) in
+      let three : 2 < length e = omega (arith, p .atLeast) in
       clash (u-all (at e 1) (p .below 1 (omega arith)) (suc j) l) (p .inner refl 1 (omega arith) three)
 
   avoids : (l : ℕ) → Joins net l (net .root) (net .last) → Contains net P u l → ⊥
@@ -145,7 +145,7 @@ module _ (net : Network) (proper : Proper net) (P : Ears) (acc : Passing net P) 
       first = first-passed net P acc (some-ear net proper P acc done)
 
       three : 3 ≤ length (earAt P 0)
-      three = first .long
+      three = first .atLeast
 
       ends : (at (earAt P 0) 0 ≡ net .root) × (at (earAt P 0) (pred (length (earAt P 0))) ≡ net .first)
       ends = first .cycle refl

@@ -232,7 +232,7 @@ module _ (net : Network) (proper : Proper net) (es : Ears) (acc : Passing net es
   first-birth : birth es (net .first) ≡ 0
   first-birth =
       let p = first-passed net es acc some-ear in
-      omega (arith, birth-le es (net .first) 0 some-ear (holds-by (earAt es 0) _ _ (let l : pred (length (earAt es 0)) < length (earAt es 0) = omega (arith, p .long) in l) (p .cycle refl .1)))
+      omega (arith, birth-le es (net .first) 0 some-ear (holds-by (earAt es 0) _ _ (let l : pred (length (earAt es 0)) < length (earAt es 0) = omega (arith, p .atLeast) in l) (p .cycle refl .1)))
 
   root-place : s (net .root) ≡ 0
   root-place = subst (λ (z : Ears). position (order z) (net .root) ≡ 0) (take-length es) (grown net es acc (length es) (omega arith) .rooted some-ear)
@@ -253,7 +253,7 @@ module _ (net : Network) (proper : Proper net) (es : Ears) (acc : Passing net es
   first-inner zero z k l q r =
       let p = first-passed net es acc some-ear in
       let (x, y) = p .cycle refl in
-      let n = p .long in
+      let n = p .atLeast in
       let a = p .simple k 0 (omega arith) (omega arith) (q ∙ sym x) in
       let b = p .simple (suc k) (pred (length (earAt es 0))) l (omega arith) (r ∙ sym y) in
       omega arith
@@ -291,7 +291,7 @@ module _ (net : Network) (proper : Proper net) (es : Ears) (acc : Passing net es
       let st = stands x m d in
       (birthIndex x, ⊎-elim (λ e. absurd (f e)) (λ l. l) (st .before), st .here, rw (ne-eqb x (net .root) d, ne-eqb x (net .first) f))
 
-  module _ (p : ℕ → ℕ → ℕ) (e₁ : (v : ℕ) → p 1 v ≡ parent1 net es v) (e₂ : (v : ℕ) → p 2 v ≡ parent2 net es v) (e₃ : Third net es (p 3)) where
+  module _ (p : ℕ → ℕ → ℕ) (e₁ : (v : ℕ) → v < net .n → p 1 v ≡ parent1 net es v) (e₂ : (v : ℕ) → v < net .n → p 2 v ≡ parent2 net es v) (e₃ : Third net es (p 3)) where
     third-cases : (x : ℕ) → x < net .n → x ≢ net .root → ((x ≡ net .last) × (p 3 x ≡ net .root)) ⊎ LaterBorn net es x (p 3 x)
     third-cases x m d = ⊎-elim (λ f. inl (f, ap (p 3) f ∙ e₃ .last)) (λ f. inr (e₃ .other x m d f)) (same? x (net .last))
 
@@ -302,19 +302,19 @@ module _ (net : Network) (proper : Proper net) (es : Ears) (acc : Passing net es
           proper = proper;
           fixed =
               by-tree (λ t. p t (net .root) ≡ net .root)
-              (rw (e₁ (net .root)) (parent1-root net es (net .root) refl)) (rw (e₂ (net .root)) (parent2-root net es (net .root) refl)) (e₃ .root);
+              (rw (e₁ (net .root) (proper .named .0)) (parent1-root net es (net .root) refl)) (rw (e₂ (net .root) (proper .named .0)) (parent2-root net es (net .root) refl)) (e₃ .root);
           linked =
               by-tree (λ t. (x : ℕ) → x < net .n → x ≢ net .root → Adjacent net x (p t x))
-              (λ x m d. rw (e₁ x) (joined-adjacent net x _ (joined-sym net _ x (down x m d .link-az))))
-              (λ x m d. rw (e₂ x) (joined-adjacent net x _ (second x m d .1)))
+              (λ x m d. rw (e₁ x m) (joined-adjacent net x _ (joined-sym net _ x (down x m d .link-az))))
+              (λ x m d. rw (e₂ x m) (joined-adjacent net x _ (second x m d .1)))
               (λ x m d. ⊎-elim
               (λ (f, z). rw z (subst (λ (y : ℕ). Adjacent net y (net .root)) (sym f) (joined-adjacent net _ _ (joined-sym net _ _ (adjacent-joined net _ _ (proper .rootLast))))))
               (λ h. h .adjacent)
               (third-cases x m d));
-          back = λ x m d. rw (e₁ x) (down x m d .up-az);
-          onward = λ x m d. rw (e₂ x) (⊎-elim (λ f. inl (f, parent2-first net es x d f)) (λ f. inr (upward x m d f .up-az)) (same? x (net .first)));
-          older₁ = λ x m d. rw (e₁ x) (down x m d .old-a);
-          older₂ = λ x m d. rw (e₂ x) (second x m d .2);
+          back = λ x m d. rw (e₁ x m) (down x m d .up-az);
+          onward = λ x m d. rw (e₂ x m) (⊎-elim (λ f. inl (f, parent2-first net es x d f)) (λ f. inr (upward x m d f .up-az)) (same? x (net .first)));
+          older₁ = λ x m d. rw (e₁ x m) (down x m d .old-a);
+          older₂ = λ x m d. rw (e₂ x m) (second x m d .2);
           later = λ x m d. ⊎-elim inl (λ h. inr (born-later x _ h)) (third-cases x m d);
           s-root = root-place;
           b-root = root-birth;
@@ -323,10 +323,10 @@ module _ (net : Network) (proper : Proper net) (es : Ears) (acc : Passing net es
           b-limit = λ x m. omega (arith, birth-lt es x (all-born x m));
           first-inner = λ z.
               let (k, l, q, r) = before (net .first) (proper .named .1) (λ h. proper .distinct .0 (sym h)) in
-              first-inner (birth es (net .first)) first-birth k l (q ∙ (sym (e₁ _) ∙ z)) r;
+              first-inner (birth es (net .first)) first-birth k l (q ∙ (sym (e₁ _ (proper .named .1)) ∙ z)) r;
           last-inner = λ z.
               let (k, l, q, r) = before (net .last) (proper .named .2) (λ h. proper .distinct .1 (sym h)) in
-              last-apart (subst (λ (y : ℕ). holds (earAt es (birth es (net .last))) y ≡ true) (q ∙ (sym (e₁ _) ∙ z)) (course-held (birth es (net .last)) k (omega arith)));
+              last-apart (subst (λ (y : ℕ). holds (earAt es (birth es (net .last))) y ≡ true) (q ∙ (sym (e₁ _ (proper .named .2)) ∙ z)) (course-held (birth es (net .last)) k (omega arith)));
         }
 
     pub closed-routes : ThreeRoutes net p (λ t v. walkBy (net .root) (p t) (pred (net .n)) v)

@@ -1,5 +1,5 @@
 -- Document 01, "Refusals from the input": what load, ear and close answer by the numbered checks, each over the whole input,
--- in number order. The judge of an ear asks the network, which switches are born and which links used, and nothing else.
+-- in number order. The judge of an ear asks the network, which switches are born, which links used and whether it is the first.
 use mathlib.Core.Path.{_≡_}
 use mathlib.Core.Bool.{Bool, not, _&&_, _||_, cond}
 use mathlib.Core.List.{List, [], _∷_}
@@ -8,8 +8,7 @@ use lib.Dec.{eqb, ltb, leb}
 use lib.ListN.{length, take}
 use Rattle.mondschein.specs.Network.{low, any, Network, at, holds, size, former, latter, joins, joined, linkOf, Ears, earAt, born, used, isNew, newCount}
 
--- what a call answers: its values (load N and M, ear the number of new switches, parent an entry, walk its count of switches,
--- close and clear none), or a refusal, a number and a place
+-- what a call answers: its values, in document 01's order, or a refusal, a number and a place
 pub data Answer : Type 0 where
   given : List ℕ → Answer
   refused : ℕ → ℕ → Answer
@@ -110,8 +109,8 @@ module _ (net : Network) (isBorn isUsed : ℕ → Bool) (isFirst : Bool) (e : Li
   unfoldable pub rootEnd : Bool
   rootEnd = eqb (at e 0) (net .root) || eqb (at e (pred (length e))) (net .root)
 
-  unfoldable pub lastEarly : ℕ → Bool
-  lastEarly k = isNew isFirst (length e) k && (eqb (at e k) (net .last) && (otherNew k || (otherUnborn || rootEnd)))
+  unfoldable pub lastMisplaced : ℕ → Bool
+  lastMisplaced k = isNew isFirst (length e) k && (eqb (at e k) (net .last) && (otherNew k || (otherUnborn || rootEnd)))
 
   -- 16: a new switch other than last keeps no unborn neighbour
   unfoldable pub noneUnborn : ℕ → Bool
@@ -127,7 +126,7 @@ module _ (net : Network) (isBorn isUsed : ℕ → Bool) (isFirst : Bool) (e : Li
       (check 12 1 wrongCycle
       (check 13 (length e) unbornEnd
       (check 14 (length e) bornBetween
-      (check 15 (length e) lastEarly
+      (check 15 (length e) lastMisplaced
       (check 16 (length e) noneUnborn
       (given (newCount isFirst (length e) ∷ [])))))))))))
 

@@ -74,8 +74,7 @@ orderOf empty = []
 orderOf (opened net es) = order es
 orderOf (closed net es) = order es
 
--- a session with its calls, as a caller sees them: the session after a call and its answer; parent and walk, of a switch, a tree and a
--- lent slice, which only read; and the order of switches that it keeps
+-- a session with its calls: the session after a call and its answer; parent and walk, which only read; the order that it keeps
 pub record Program : Type 1 where
   pub Session : Type 0
   pub fresh : Session
