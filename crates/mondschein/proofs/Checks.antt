@@ -11,12 +11,17 @@ use lib.ListN.{length}
 use borrow.Author.Tests.{ltb-true, ltb-false, lt-ltb, le-ltb, leb-false, lt-leb, eqb-true, eqb-false, eq-eqb, ne-eqb, not-true, not-false}
 use Rattle.mondschein.specs.Network.{low, any, Network, at, Simple, holds, joined, linkOf, Ears, born, used, isNew, newCount}
 use Rattle.mondschein.specs.Judge.{Answer, given, refused, check, wrongLength, tooLarge, repeated, notJoined, usedAlready, wrongCycle, unbornEnd, bornBetween, otherNew, otherUnborn, rootEnd, lastMisplaced, noneUnborn, verdict}
-use Rattle.mondschein.proofs.Logic.{clash, less?, trichotomy, and-true, true-and, or-false, and-false, false-and, false-or}
+use Rattle.mondschein.proofs.Logic.{clash, less?, same?, trichotomy, and-true, true-and, or-false, and-false, false-and, false-or}
 use Rattle.mondschein.proofs.Search.{low-is, low-stop, low-none, any-true, any-false, true-any, false-any}
 
 -- no position below c is bad
 abbrev pub Clear : ℕ → (ℕ → Bool) → Type 0
 Clear c bad = (k : ℕ) → k < c → bad k ≡ false
+
+pub check-pass : (num c : ℕ) (bad : ℕ → Bool) (after : Answer) → Clear c bad → check num c bad after ≡ after
+unfolding check
+check-pass num c bad after h =
+    rw (low-none bad c h, le-ltb c c (omega arith))
 
 pub check-given : (num c : ℕ) (bad : ℕ → Bool) (after : Answer) (vs : List ℕ) → check num c bad after ≡ given vs → Clear c bad × (after ≡ given vs)
 unfolding check
@@ -25,11 +30,6 @@ check-given num c bad after vs e = go (ltb (low bad c) c) refl e
     go : (b : Bool) → ltb (low bad c) c ≡ b → cond b (refused num (low bad c)) after ≡ given vs → Clear c bad × (after ≡ given vs)
     go true h q = let z : _≡_ {A = ℕ} 0 1 = cc in absurd (omega arith)
     go false h q = (λ j l. low-is bad c .before j (omega (arith, ltb-false (low bad c) c h)), q)
-
-pub check-pass : (num c : ℕ) (bad : ℕ → Bool) (after : Answer) → Clear c bad → check num c bad after ≡ after
-unfolding check
-check-pass num c bad after h =
-    rw (low-none bad c h, le-ltb c c (omega arith))
 
 -- a check with one place
 pub check-fail : (num : ℕ) (bad : ℕ → Bool) (after : Answer) → bad 0 ≡ true → check num 1 bad after ≡ refused num 0
@@ -99,6 +99,11 @@ new-end c k (inl z) = false-and (ltb 0 k) _ (λ t. absurd (omega (arith, ltb-tru
 new-end c k (inr z) = false-and (ltb 0 k) _ (λ t. le-ltb (suc k) c (omega arith))
 
 module _ (net : Network) (es : Ears) (b : Bool) (e : List ℕ) where
+  -- 16 does not ask last
+  last-exempt : (k : ℕ) → at e k ≡ net .last → noneUnborn net (born es) (used net es) b e k ≡ false
+  unfolding noneUnborn
+  last-exempt k q = false-and (isNew b (length e) k) _ (λ _. rw (eq-eqb (at e k) (net .last) q))
+
   pub given-passed : (vs : List ℕ) → verdict net (born es) (used net es) b e ≡ given vs → Passed net es b e
   unfolding verdict wrongLength tooLarge repeated notJoined usedAlready wrongCycle unbornEnd bornBetween lastMisplaced otherNew otherUnborn rootEnd noneUnborn
   given-passed vs q =
@@ -168,7 +173,7 @@ module _ (net : Network) (es : Ears) (b : Bool) (e : List ℕ) where
       ∙ check-pass _ _ _ _ (λ k l. false-and (not b) _ (λ z. false-and (not (isNew b (length e) k)) _ (λ f. ap not (old (not-true b z) k l (not-true _ f)))))
       ∙ check-pass _ _ _ _ (λ k l. false-and (not b) _ (λ z. false-and (isNew b (length e) k) _ (λ t. young (not-true b z) k t)))
       ∙ check-pass _ _ _ _ (λ k l. false-and (isNew b (length e) k) _ (λ f. false-and (eqb (at e k) (net .last)) _ (λ q. last-free k l f (eqb-true _ _ q))))
-      ∙ check-pass _ _ _ _ (λ k l. false-and (isNew b (length e) k) _ (λ f. false-and (not (eqb (at e k) (net .last))) _ (λ d. ap not (found k l f (eqb-false _ _ (not-true _ d))))))
+      ∙ check-pass _ _ _ _ (λ k l. ⊎-elim (last-exempt k) (λ d. false-and (isNew b (length e) k) _ (λ f. false-and (not (eqb (at e k) (net .last))) _ (λ _. ap not (found k l f d)))) (same? (at e k) (net .last)))
     where
       old : b ≡ false → (k : ℕ) → k < length e → isNew b (length e) k ≡ false → born es (at e k) ≡ true
       old z k l f =

@@ -149,7 +149,7 @@ module _ (net : Network) (proper : Proper net) (P : Ears) (M : Mondschein net P)
       (λ w. w)
       (⊎-elim (λ (w : u < i). absurd (omega (arith, M .lastLong .1 i long))) (λ w. absurd (d (new-last i k (sym w) b l f))))
       (trichotomy i u) in
-      let (y, a, j, o) = M .nonSeparating i u n long (M .lastLong .0) (at e k) h in (
+      let (y, a, j, o) = M .nonSeparating i u (omega (arith, n)) long (M .lastLong .0) (at e k) h in (
         y,
         a,
         adjacent-joined net _ y j,

@@ -2,23 +2,23 @@
 -- gives document 01's tables; and the plain form, of one list offered to a fresh session.
 use mathlib.Core.Path.{_≡_, sym, ap, _∙_, subst}
 use mathlib.Core.Logic.{_↔_}
-use mathlib.Core.Bool.{true, false, not, cond}
+use mathlib.Core.Bool.{true, not, cond}
 use mathlib.Core.List.{List, [], _∷_, _++_, foldl, map, append-assoc, append-nil}
 use Prim.Native.Nat.{ℕ, _<_}
 use lib.Dec.{eqb}
 use lib.ListN.{length}
-use borrow.Author.Tests.{lt-leb, le-ltb, not-true, not-false}
+use borrow.Author.Tests.{not-true, not-false}
 use Rattle.mondschein.specs.Network.{Network, size, passes, Proper, Ears, earAt, trail, used, newSwitches}
 use Rattle.mondschein.specs.Judge.{Answer, given, judge, closing}
 use Rattle.mondschein.specs.Order.{parentOf}
-use Rattle.mondschein.specs.Machine.{State, empty, opened, closed, load, ear, close, granted, settle, step, unknown, parentCall, orderOf, machine}
+use Rattle.mondschein.specs.Machine.{State, empty, opened, closed, load, ear, close, granted, settle, step, orderOf, machine}
 use Rattle.mondschein.specs.Mondschein.{Contains, Mondschein}
-use Rattle.mondschein.specs.Routes.{Tree}
 use Rattle.mondschein.specs.Demands.{Entries, Judges, Demand2, Plain}
-use Rattle.mondschein.proofs.Logic.{clash, false-or}
+use Rattle.mondschein.proofs.Logic.{clash}
 use Rattle.mondschein.proofs.Search.{any-true, true-any}
 use Rattle.mondschein.proofs.Links.{passes-along, along-passes}
 use Rattle.mondschein.proofs.Checks.{check-pass, check-refused}
+use Rattle.mondschein.proofs.Calls.{entries}
 use Rattle.mondschein.proofs.Births.{Passing, accepted-passing, next-passed}
 use Rattle.mondschein.proofs.Loading.{loading-given, proper-loading}
 use Rattle.mondschein.proofs.Sound.{sound}
@@ -60,15 +60,6 @@ module _ (net : Network) (es : Ears) where
               λ j m. used-contained net es j (not-false _ (f j m)),
             );
       }
-
-  -- parent calls on a closed state
-  pub known : (t v : ℕ) → Tree t → v < net .n → (k : ℕ) → k < 1 → unknown net v t k ≡ false
-  unfolding unknown
-  known t v m l k _ = false-or _ _ (lt-leb _ _ l) (false-or _ _ (le-ltb t 1 (m .0)) (le-ltb 3 t (m .1)))
-
-  pub entries : Entries machine (closed net es) net (parentOf net es)
-  unfolding parentCall
-  entries t v m l = check-pass _ _ _ _ (known t v m l)
 
 pub demand2 : Demand2 machine
 unfolding step settle Reached

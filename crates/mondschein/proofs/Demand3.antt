@@ -1,30 +1,13 @@
 -- Demand 3 of the machine: closed after any list of calls, its parent and walk calls give three routes.
--- `written` says what a walk call on a closed state writes.
-use mathlib.Core.Path.{refl, sym, ap, _∙_, subst}
-use mathlib.Core.List.{_++_}
-use lib.ListN.{length, drop}
-use borrow.Author.Tests.{lt-ltb, le-ltb}
-use Rattle.mondschein.specs.Network.{Network, Ears}
+-- What single calls give on a closed state is in Calls.antt.
+use mathlib.Core.Path.{refl, sym, subst}
 use Rattle.mondschein.specs.Order.{parentOf, walkOf}
-use Rattle.mondschein.specs.Machine.{State, closed, granted, settle, walkCall, machine}
+use Rattle.mondschein.specs.Machine.{State, closed, machine}
 use Rattle.mondschein.specs.Demands.{Entries, Writes, Demand3}
-use Rattle.mondschein.proofs.Checks.{check-pass, check-fail}
+use Rattle.mondschein.proofs.Calls.{entries, writes}
 use Rattle.mondschein.proofs.Births.{accepted-passing}
 use Rattle.mondschein.proofs.Trees.{third-rule, closed-routes}
-use Rattle.mondschein.proofs.Demand2.{known, entries}
 use Rattle.mondschein.proofs.History.{Reached, state-of, reached-of}
-
-pub writes : (net : Network) (es : Ears) → Writes machine (closed net es) net (walkOf net es)
-unfolding walkCall settle granted
-writes net es =
-    record {
-      written = λ t v m l out h.
-          ap (settle out (walkOf net es t v ++ drop (length (walkOf net es t v)) out))
-          (check-pass 17 1 _ _ (known net es t v m l) ∙ check-pass 18 1 _ _ (λ k _. le-ltb _ _ h));
-      tooShort = λ t v m l out h.
-          ap (settle out (walkOf net es t v ++ drop (length (walkOf net es t v)) out))
-          (check-pass 17 1 _ _ (known net es t v m l) ∙ check-fail 18 _ _ (lt-ltb _ _ h));
-    }
 
 pub demand3 : Demand3 machine
 unfolding Reached parentOf walkOf

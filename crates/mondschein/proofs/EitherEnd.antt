@@ -6,21 +6,22 @@ use mathlib.Core.Bool.{Bool, true, false, not, _&&_, _||_, cond}
 use mathlib.Core.List.{List, [], _∷_, _++_, reverse, foldl, foldl-append}
 use Prim.Native.Nat.{ℕ, suc, pred, _-_, _<_}
 use native.Mathlib.Omega.{arith}
-use lib.Dec.{eqb, ltb, leb}
+use lib.Dec.{eqb, ltb}
 use lib.ListN.{length, drop, length-append}
 use lib.ListN as L
-use borrow.Author.Tests.{ne-eqb, leb-false, ltb-false}
+use borrow.Author.Tests.{ne-eqb}
 use Rattle.mondschein.specs.Network.{Network, at, holds, size, joined, passes, Proper, Ears, born, birth, trail, used, isNew, newSwitches}
 use Rattle.mondschein.specs.Judge.{Answer, given, check, verdict, judge, closing}
 use Rattle.mondschein.specs.Order.{position, fromA, between, extend, order, parent1, parent2, parent3By, parentOf, walkOf}
 use Rattle.mondschein.specs.Machine.{State, empty, opened, closed, Call, load, ear, close, clear, granted, settle, step, unknown, parentCall, walkCall, orderOf, machine, session}
 use Rattle.mondschein.specs.Routes.{Tree}
 use Rattle.mondschein.specs.Demands.{Alike, EitherEnd}
-use Rattle.mondschein.proofs.Logic.{which, clash, same?, or-false, or-true}
+use Rattle.mondschein.proofs.Logic.{which, clash, same?, or-true}
 use Rattle.mondschein.proofs.Search.{low-ext, count-ext}
 use Rattle.mondschein.proofs.Lists.{at-same, at-reverse, holds-reverse}
 use Rattle.mondschein.proofs.Links.{joined-sym, linkOf-sym, passes-reverse, adjacent-below}
 use Rattle.mondschein.proofs.Checks.{check-fail, Passed, new-between, between-new}
+use Rattle.mondschein.proofs.Calls.{known-below, known-tree}
 use Rattle.mondschein.proofs.Agreement.{check-ext, verdict-ext, closing-ext}
 use Rattle.mondschein.proofs.Births.{Passing, accepted-passing, later, born-snoc, used-snoc, birth-old, birth-new, birth-unborn}
 use Rattle.mondschein.proofs.Order.{put, extend-is, fromA-reverse}
@@ -200,16 +201,6 @@ module _ (net : Network) where
       (λ i. rw (ne-eqb (length es) 0 (omega arith)) (sym (passes-reverse net e i)))
       (rw (ne-eqb (length es) 0 (omega arith)) (sym c))
       (extend-is (order es) e o ∙ ap (λ (z : List ℕ). put (order es) (between z) (suc (position (order es) (at z 0)))) (sym c) ∙ sym (extend-is (order es) (reverse e) o))
-
--- what check 17 lets through
-module _ (net : Network) (v t : ℕ) (k : unknown net v t 0 ≡ false) where
-  known-below : v < net .n
-  unfolding unknown
-  known-below = leb-false (net .n) v (or-false _ _ k .0)
-
-  known-tree : Tree t
-  unfolding unknown
-  known-tree = let (a, b) = or-false (ltb t 1) _ (or-false (leb (net .n) v) _ k .1) in (ltb-false t 1 a, ltb-false 3 t b)
 
 -- states that nothing tells apart
 data Bisimilar : State → State → Type 0 where

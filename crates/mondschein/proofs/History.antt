@@ -1,20 +1,17 @@
 -- The machine along a list of calls: its state is the list's history, what it has loaded, accepted and closed is proper, accepted and
 -- used, and it refuses by its state.
 use mathlib.Core.Path.{_≡_, refl, sym, ap, _∙_, subst}
-use mathlib.Core.Logic.{_⊎_, inl, inr}
-use mathlib.Core.Bool.{true, false, cond}
+use mathlib.Core.Bool.{true, cond}
 use mathlib.Core.List.{List, [], _∷_, _++_, foldl}
 use Prim.Native.Nat.{ℕ, _<_}
 use native.Mathlib.Omega.{arith}
-use lib.Dec.{ltb, leb}
-use borrow.Author.Tests.{not-false, leb-false, ltb-false}
+use borrow.Author.Tests.{not-false}
 use Rattle.mondschein.specs.Network.{Network, size, Proper, Ears, used, newSwitches}
 use Rattle.mondschein.specs.Judge.{Answer, given, refused, loading, judge, closing, Accepted}
-use Rattle.mondschein.specs.Machine.{State, empty, opened, closed, Call, load, ear, close, clear, granted, settle, step, parentCall, walkCall, unknown, machine, told, historyFrom, history, session}
+use Rattle.mondschein.specs.Machine.{State, empty, opened, closed, Call, load, ear, close, clear, granted, settle, step, parentCall, walkCall, machine, told, historyFrom, history, session}
 use Rattle.mondschein.specs.Demands.{StateIsHistory, Follows, Stages}
-use Rattle.mondschein.specs.Routes.{Tree}
-use Rattle.mondschein.proofs.Logic.{which, or-false}
-use Rattle.mondschein.proofs.Checks.{check-given, check-fail}
+use Rattle.mondschein.proofs.Checks.{check-given}
+use Rattle.mondschein.proofs.Calls.{empty-refuses, open-refuses, closed-refuses, unknown-refused}
 use Rattle.mondschein.proofs.Births.{accepted-snoc}
 use Rattle.mondschein.proofs.Loading.{loading-given}
 use Rattle.mondschein.proofs.Counts.{judge-passed, judged}
@@ -99,31 +96,19 @@ follows =
       walks = λ cs v t out. ap (λ (s : State). walkCall s v t out) (state-is-history cs);
     }
 
-not-known : (net : Network) (v t : ℕ) → (v < net .n → Tree t → ⊥) → unknown net v t 0 ≡ true
-unfolding unknown
-not-known net v t bad = go (which (unknown net v t 0))
-  where
-    go : (unknown net v t 0 ≡ true) ⊎ (unknown net v t 0 ≡ false) → unknown net v t 0 ≡ true
-    go (inl h) = h
-    go (inr h) =
-        let (l, r) = or-false (leb (net .n) v) _ h in
-        let (a, b) = or-false (ltb t 1) _ r in
-        absurd (bad (leb-false (net .n) v l) (ltb-false t 1 a, ltb-false 3 t b))
-
 pub stages : Stages machine
-unfolding step settle parentCall walkCall
 stages =
     record {
       onEmpty = λ cs h v t e out.
           subst (λ (s : State). (step s (ear e) .answer ≡ refused 19 0) × (step s close .answer ≡ refused 19 0) × (parentCall s v t ≡ refused 19 0) × (walkCall s v t out .answer ≡ refused 19 0))
-          (sym (state-of cs empty h)) (refl, refl, refl, refl);
+          (sym (state-of cs empty h)) (empty-refuses v t e out);
       onOpen = λ cs net net′ es h v t out.
           subst (λ (s : State). (step s (load net′) .answer ≡ refused 20 0) × (parentCall s v t ≡ refused 21 0) × (walkCall s v t out .answer ≡ refused 21 0))
-          (sym (state-of cs (opened net es) h)) (refl, refl, refl);
+          (sym (state-of cs (opened net es) h)) (open-refuses net net′ es v t out);
       onClosed = λ cs net net′ es h e.
           subst (λ (s : State). (step s (load net′) .answer ≡ refused 20 0) × (step s (ear e) .answer ≡ refused 22 0) × (step s close .answer ≡ refused 22 0))
-          (sym (state-of cs (closed net es) h)) (refl, refl, refl);
+          (sym (state-of cs (closed net es) h)) (closed-refuses net net′ es e);
       unknown = λ cs net es h v t out bad.
           subst (λ (s : State). (parentCall s v t ≡ refused 17 0) × (walkCall s v t out .answer ≡ refused 17 0))
-          (sym (state-of cs (closed net es) h)) (check-fail 17 _ _ (not-known net v t bad), check-fail 17 _ _ (not-known net v t bad));
+          (sym (state-of cs (closed net es) h)) (unknown-refused net es v t out bad);
     }

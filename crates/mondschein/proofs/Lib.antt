@@ -3,6 +3,7 @@ pub mod Search
 pub mod Lists
 pub mod Links
 pub mod Checks
+pub mod Calls
 pub mod Agreement
 pub mod Births
 pub mod Counts

@@ -17,7 +17,8 @@ use Rattle.mondschein.proofs.Lists.{at-same, holds-in, in-holds}
 use Rattle.mondschein.proofs.Checks.{Passed}
 use Rattle.mondschein.proofs.Births.{Passing, accepted-passing, accepted-prefix, next-passed, later, born-at, at-born, born-snoc, birth-old, birth-birth}
 use Rattle.mondschein.proofs.Order.{position-at, fromA-rule, extend-rule, extend-short}
-use Rattle.mondschein.proofs.Growth.{order-suc, order-one, order-snoc, grown, whole-grown, order-full, order-sound, order-simple, order-some, later-fits, root-held, parent2-first, parent1-old, parent2-old}
+use Rattle.mondschein.proofs.Growth.{order-suc, order-one, order-snoc, grown, whole-grown, order-full, order-sound, order-simple, order-some, later-fits, root-held, parent1-root, parent2-root, parent2-first, parent1-old, parent2-old}
+use Rattle.mondschein.proofs.Routes.{by-tree}
 use Rattle.mondschein.proofs.Trees.{all-born, third-rule, third-lowest, before, after, closed-routes}
 use Rattle.mondschein.proofs.Complete.{complete, complete-used}
 
@@ -52,7 +53,7 @@ module _ (net : Network) (proper : Proper net) (es : Ears) (acc : Passing net es
   unfolding parentOf
   table-rules =
       record {
-        root = λ t m. closed-routes net proper es acc done (parentOf net es) (λ v _. refl) (λ v _. refl) (third-rule net proper es acc done) .trees t m .rooted;
+        root = by-tree (λ t. parentOf net es t (net .root) ≡ net .root) (parent1-root net _ (net .root) refl) (parent2-root net _ (net .root) refl) (third-rule net proper es acc done .root);
         tree1 = λ v m d. let b = birth-birth es v (all-born net proper es acc done v m) in (birth es v, course es (birth es v), b, course-rule (birth es v) (b .below), before net proper es acc done v m d);
         tree2 = λ v m d f. let b = birth-birth es v (all-born net proper es acc done v m) in (birth es v, course es (birth es v), b, course-rule (birth es v) (b .below), after net proper es acc done v m d f);
         first2 = parent2-first net es (net .first) (λ z. proper .distinct .0 (sym z)) refl;
