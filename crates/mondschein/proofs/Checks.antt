@@ -31,6 +31,16 @@ check-given num c bad after vs e = go (ltb (low bad c) c) refl e
     go true h q = let z : _≡_ {A = ℕ} 0 1 = cc in absurd (omega arith)
     go false h q = (λ j l. low-is bad c .before j (omega (arith, ltb-false (low bad c) c h)), q)
 
+-- a check whose first bad place, or c, was found to be r
+module _ (num c : ℕ) (bad : ℕ → Bool) (after : Answer) {r : ℕ} (q : r ≡ low bad c) where
+  pub check-hit : r < c → check num c bad after ≡ refused num r
+  unfolding check
+  check-hit l = rw (← q, lt-ltb r c l)
+
+  pub check-miss : c ≤ r → check num c bad after ≡ after
+  unfolding check
+  check-miss l = rw (← q, le-ltb r c l)
+
 -- a check with one place
 pub check-fail : (num : ℕ) (bad : ℕ → Bool) (after : Answer) → bad 0 ≡ true → check num 1 bad after ≡ refused num 0
 unfolding check

@@ -1,12 +1,12 @@
 -- Laws of links: which switches they join, which lists they lie along, and that a proper network has one link for a pair.
 -- `joins`, `joined` and `passes` decide `Joins`, `Adjacent` and `Along`.
-use mathlib.Core.Path.{_≡_, sym, ap₂, _∙_, subst}
+use mathlib.Core.Path.{_≡_, refl, sym, ap₂, _∙_, subst}
 use mathlib.Core.Logic.{_⊎_, inl, inr, ⊎-elim}
 use mathlib.Core.Bool.{Bool, true, false, _&&_, or-comm}
 use mathlib.Core.List.{List, [], _∷_, _++_, reverse, reverse-reverse}
 use Prim.Native.Nat.{ℕ, zero, suc, pred, _-_, _<_}
 use native.Mathlib.Omega.{arith}
-use lib.Dec.{eqb}
+use lib.Dec.{eqb, ltb}
 use lib.ListN.{length, length-append, List·getD-append}
 use lib.ListN as L
 use lib.Seq.{getD-at}
@@ -140,6 +140,10 @@ trail-passes net true e k l m h =
     (rw (List·getD-append e (at e 0 ∷ []) 0 k (omega arith), List·getD-append e (at e 0 ∷ []) 0 (suc k) m) h)
 
 module _ (net : Network) where
+  pub joined-link : (x y : ℕ) → joined net x y ≡ ltb (linkOf net x y) (size net)
+  unfolding joined linkOf any
+  joined-link x y = refl
+
   pub link-found : (x y : ℕ) → joined net x y ≡ true → (linkOf net x y < size net) × (joins net (linkOf net x y) x y ≡ true)
   unfolding linkOf joined
   link-found x y h = let (i, l, q) = any-true (λ i. joins net i x y) (size net) h in low-found (λ i. joins net i x y) (size net) i l q

@@ -3,10 +3,10 @@
 use mathlib.Core.Path.{_≡_, refl, sym, ap, ap₂, _∙_}
 use mathlib.Core.Logic.{_⊎_, inl, inr, ⊎-elim}
 use mathlib.Core.Bool.{Bool, true, false, _&&_, _||_, cond}
-use Prim.Native.Nat.{ℕ, zero, suc, _+_, _≤_, _<_}
+use Prim.Native.Nat.{ℕ, zero, suc, _+_, _-_, _≤_, _<_}
 use native.Mathlib.Omega.{arith}
 use lib.Dec.{eqb, ltb}
-use borrow.Author.Tests.{ltb-true, ltb-false, eq-eqb, ne-eqb}
+use borrow.Author.Tests.{ltb-true, ltb-false, lt-ltb, le-ltb, eq-eqb, ne-eqb}
 use Rattle.mondschein.specs.Network.{low, any, count}
 use Rattle.mondschein.proofs.Logic.{which, clash, trichotomy, less?, same?}
 
@@ -79,6 +79,14 @@ low-stop p n k b l t = low-eq p n k (record { le = omega arith; before = b; hit 
 
 pub low-none : (p : ℕ → Bool) (n : ℕ) → ((j : ℕ) → j < n → p j ≡ false) → low p n ≡ n
 low-none p n b = low-eq p n n (record { le = omega arith; before = b; hit = λ l. absurd (omega arith) })
+
+-- a search below n tells of every lower bound
+pub any-low : (p : ℕ → Bool) (n k : ℕ) → k ≤ n → any p k ≡ ltb (low p n) k
+any-low p n k l =
+    ⊎-elim
+    (λ (m : low p n < k). true-any p k (low p n) m (low-is p n .hit (omega arith)) ∙ sym (lt-ltb (low p n) k m))
+    (λ (m : k ≤ low p n). false-any p k (λ j h. low-is p n .before j (omega arith)) ∙ sym (le-ltb (low p n) k m))
+    (less? (low p n) k)
 
 -- one index more
 pub any-suc : (p : ℕ → Bool) (n : ℕ) → any p (suc n) ≡ (any p n || p n)
@@ -223,3 +231,35 @@ count-one q x (suc n) l =
     (ap (λ (y : ℕ). cond (q y) 1 0) (sym e)))
     (λ d. rw (ne-eqb x n d) (count-one q x n (omega arith)))
     (same? x n)
+
+-- a loop that looks for the first hit: what it gives from index i on
+module _ (p : ℕ → Bool) (n : ℕ) where
+  unfoldable pub rest : ℕ → ℕ
+  rest i = i + low (λ k. p (i + k)) (n - i)
+
+  pub rest-begin : low p n ≡ rest 0
+  unfolding rest
+  rest-begin =
+      let e : n - 0 ≡ n = omega arith in
+      rw e (omega (arith, low-ext p (λ k. p (0 + k)) n (λ k l. ap p (let z : k ≡ 0 + k = omega arith in z))))
+
+  pub rest-hit : (i : ℕ) → i < n → p i ≡ true → rest i ≡ i
+  unfolding rest
+  rest-hit i l t =
+      omega (arith, low-stop (λ k. p (i + k)) (n - i) 0 (λ j m. absurd (omega arith)) (omega arith) (ap p (let z : i + 0 ≡ i = omega arith in z) ∙ t))
+
+  pub rest-miss : (i : ℕ) → i < n → p i ≡ false → rest i ≡ rest (i + 1)
+  unfolding rest low
+  rest-miss i l f =
+      let e : n - i ≡ suc (n - (i + 1)) = omega arith in
+      let z : p (i + 0) ≡ false = ap p (let z : i + 0 ≡ i = omega arith in z) ∙ f in
+      rw (e, z)
+      (omega (arith, low-ext (λ k. p (i + suc k)) (λ k. p (i + 1 + k)) (n - (i + 1)) (λ k m. ap p (let z : i + suc k ≡ i + 1 + k = omega arith in z))))
+
+  pub rest-end : (i : ℕ) → n ≤ i → rest i ≡ i
+  unfolding rest low
+  rest-end i l = let e : n - i ≡ 0 = omega arith in rw e (omega arith)
+
+  pub any-end : (i : ℕ) → low p n ≡ rest i → n ≤ i → any p n ≡ false
+  unfolding any
+  any-end i q l = ap (λ (k : ℕ). ltb k n) (q ∙ rest-end i l) ∙ le-ltb i n l

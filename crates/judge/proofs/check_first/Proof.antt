@@ -1,0 +1,71 @@
+use mathlib.Core.Path.{sym, _∙_}
+use mathlib.Core.List.{[]}
+use Rattle.mondschein.proofs.Checks.{check-hit, check-miss}
+use Rattle.network.specs.Load.{networkOf}
+use Rattle.judge.specs.Ear.{marked}
+use Rattle.judge.proofs.Last.{first-15}
+use Rattle.judge.proofs.Answers.{first-12-root, first-12-first, first-past}
+use borrow.Author.Needs.{needs}
+use Rattle.judge.proofs.check_first.Statement.{statement}
+use Rattle.judge.proofs.check_first.Tie as tie
+
+shared-slice-read-if1 : tie.Need-shared-slice-read-if1
+shared-slice-read-if1 c = search needs
+
+returns : tie.Need-returns
+returns c = let a = c .before .before .before .before .before .args in sym (first-12-root (a .n) (a .links .now) (a .root) (a .first) (a .last) (a .births .now) (a .ear .now) (c .if1 .taken))
+
+sub-if2 : tie.Need-sub-if2
+sub-if2 c = search needs
+
+mul-if2 : tie.Need-mul-if2
+mul-if2 c = search needs
+
+shared-slice-read-if2 : tie.Need-shared-slice-read-if2
+shared-slice-read-if2 c = search needs
+
+returns-2 : tie.Need-returns-2
+returns-2 c = let a = c .before .before .before .before .before .before .before .args in sym (first-12-first (a .n) (a .links .now) (a .root) (a .first) (a .last) (a .births .now) (a .ear .now) (c .if2 .taken))
+
+position-of-requires : tie.Need-position-of-requires
+position-of-requires c κs = search needs
+
+cast-t17 : tie.Need-cast-t17
+cast-t17 c = search needs
+
+returns-3 : tie.Need-returns-3
+returns-3 c = let a = c .before .before .before .before .before .before .before .before .before .args in sym (first-past (a .n) (a .links .now) (a .root) (a .first) (a .last) (a .births .now) (a .ear .now) (c .before .before .before .before .if1 .left) (c .before .before .if2 .left) ∙ check-hit 15 _ _ _ (c .before .position-of .ensures ∙ first-15 (networkOf (a .n) (a .links .now) (a .root) (a .first) (a .last)) (marked (a .births .now)) (marked []) (a .ear .now) (c .before .before .before .before .before .before .before .before .before .pre .0)) (c .if3 .taken))
+
+first-cut-off-requires : tie.Need-first-cut-off-requires
+first-cut-off-requires c κs = search needs
+
+cast-t18 : tie.Need-cast-t18
+cast-t18 c = search needs
+
+returns-4 : tie.Need-returns-4
+returns-4 c = let a = c .before .before .before .before .before .before .before .before .before .before .before .args in sym (first-past (a .n) (a .links .now) (a .root) (a .first) (a .last) (a .births .now) (a .ear .now) (c .before .before .before .before .before .before .if1 .left) (c .before .before .before .before .if2 .left) ∙ check-miss 15 _ _ _ (c .before .before .before .position-of .ensures ∙ first-15 (networkOf (a .n) (a .links .now) (a .root) (a .first) (a .last)) (marked (a .births .now)) (marked []) (a .ear .now) (c .before .before .before .before .before .before .before .before .before .before .before .pre .0)) (c .before .before .if3 .left) ∙ check-hit 16 _ _ _ (c .before .first-cut-off .ensures) (c .if4 .taken))
+
+cast-t12 : tie.Need-cast-t12
+cast-t12 c = search needs
+
+returns-5 : tie.Need-returns-5
+returns-5 c = let a = c .before .before .before .before .before .before .before .before .before .before .before .args in sym (first-past (a .n) (a .links .now) (a .root) (a .first) (a .last) (a .births .now) (a .ear .now) (c .before .before .before .before .before .before .if1 .left) (c .before .before .before .before .if2 .left) ∙ check-miss 15 _ _ _ (c .before .before .before .position-of .ensures ∙ first-15 (networkOf (a .n) (a .links .now) (a .root) (a .first) (a .last)) (marked (a .births .now)) (marked []) (a .ear .now) (c .before .before .before .before .before .before .before .before .before .before .before .pre .0)) (c .before .before .if3 .left) ∙ check-miss 16 _ _ _ (c .before .first-cut-off .ensures) (c .if4 .left))
+
+pub check-first-spec : {M : Type 1} → statement M
+check-first-spec =
+    tie.close
+    (tie.spec
+    shared-slice-read-if1
+    returns
+    sub-if2
+    mul-if2
+    shared-slice-read-if2
+    returns-2
+    position-of-requires
+    cast-t17
+    returns-3
+    first-cut-off-requires
+    cast-t18
+    returns-4
+    cast-t12
+    returns-5)

@@ -1,0 +1,116 @@
+use mathlib.Core.Path.{_≡_, sym, ap, _∙_}
+use mathlib.Core.List.{[], _∷_}
+use Prim.Native.Nat.{ℕ, pred, _-_}
+use native.Mathlib.Omega.{arith}
+use lib.ListN.{length}
+use Rattle.mondschein.specs.Network.{newCount}
+use Rattle.mondschein.specs.Judge.{given}
+use Rattle.mondschein.proofs.Checks.{check-hit, check-miss}
+use Rattle.judge.specs.Ear.{marked}
+use Rattle.judge.proofs.Place.{part-hit, part-miss}
+use Rattle.judge.proofs.Answers.{cutOff, later-past}
+use borrow.Author.Needs.{needs}
+use Rattle.judge.proofs.check_later.Statement.{statement}
+use Rattle.judge.proofs.check_later.Tie as tie
+
+first-unborn-end-requires : tie.Need-first-unborn-end-requires
+first-unborn-end-requires c κs = search needs
+
+cast-t14 : tie.Need-cast-t14
+cast-t14 c = search needs
+
+returns : tie.Need-returns
+unfolding newCount
+returns c = let a = c .before .before .before .before .before .args in sym (later-past (a .n) (a .links .now) (a .root) 0 (a .last) (a .births .now) (a .ear .now) ∙ check-hit 13 _ _ _ (c .before .first-unborn-end .ensures) (c .if1 .taken))
+
+sub-part : tie.Need-sub-part
+sub-part c = search needs
+
+sub-part-2 : tie.Need-sub-part-2
+sub-part-2 c = search needs
+
+part-part-start : tie.Need-part-part-start
+part-part-start c = search needs
+
+part-part-end : tie.Need-part-part-end
+part-part-end c = search needs
+
+first-born-requires : tie.Need-first-born-requires
+first-born-requires c κs = search needs
+
+sub-if2 : tie.Need-sub-if2
+sub-if2 c = search needs
+
+add-t19 : tie.Need-add-t19
+add-t19 c = search needs
+
+cast-t20 : tie.Need-cast-t20
+cast-t20 c = search needs
+
+returns-2 : tie.Need-returns-2
+unfolding newCount
+returns-2 c = let a = c .before .before .before .before .before .before .before .before .args in sym (later-past (a .n) (a .links .now) (a .root) 0 (a .last) (a .births .now) (a .ear .now) ∙ check-miss 13 _ _ _ (c .before .before .before .before .first-unborn-end .ensures) (c .before .before .before .if1 .left) ∙ check-hit 14 _ _ _ (part-hit (a .ear .now) (marked (a .births .now)) (c .before .first-born .ensures) (omega arith)) (omega arith))
+
+last-too-early-requires : tie.Need-last-too-early-requires
+last-too-early-requires c κs = search needs
+
+cast-t21 : tie.Need-cast-t21
+cast-t21 c = search needs
+
+returns-3 : tie.Need-returns-3
+unfolding newCount
+returns-3 c = let a = c .before .before .before .before .before .before .before .before .before .before .args in sym (later-past (a .n) (a .links .now) (a .root) 0 (a .last) (a .births .now) (a .ear .now) ∙ check-miss 13 _ _ _ (c .before .before .before .before .before .before .first-unborn-end .ensures) (c .before .before .before .before .before .if1 .left) ∙ check-miss 14 _ _ _ (part-miss (a .ear .now) (marked (a .births .now)) (c .before .before .before .first-born .ensures) (omega arith)) (omega arith) ∙ check-hit 15 _ _ _ (c .before .last-too-early .ensures) (c .if3 .taken))
+
+first-cut-off-requires : tie.Need-first-cut-off-requires
+first-cut-off-requires c κs = search needs
+
+sub-if4 : tie.Need-sub-if4
+sub-if4 c = search needs
+
+add-t22 : tie.Need-add-t22
+add-t22 c = search needs
+
+cast-t23 : tie.Need-cast-t23
+cast-t23 c = search needs
+
+returns-4 : tie.Need-returns-4
+unfolding newCount
+returns-4 c = let a = c .before .before .before .before .before .before .before .before .before .before .before .before .args in sym (later-past (a .n) (a .links .now) (a .root) 0 (a .last) (a .births .now) (a .ear .now) ∙ check-miss 13 _ _ _ (c .before .before .before .before .before .before .before .before .first-unborn-end .ensures) (c .before .before .before .before .before .before .before .if1 .left) ∙ check-miss 14 _ _ _ (part-miss (a .ear .now) (marked (a .births .now)) (c .before .before .before .before .before .first-born .ensures) (omega arith)) (omega arith) ∙ check-miss 15 _ _ _ (c .before .before .before .last-too-early .ensures) (c .before .before .if3 .left) ∙ check-hit 16 _ _ _ (part-hit (a .ear .now) (cutOff (a .n) (a .last) (a .links .now) (a .births .now) (a .ear .now)) (c .before .first-cut-off .ensures) (omega arith)) (omega arith))
+
+sub-t15 : tie.Need-sub-t15
+sub-t15 c = search needs
+
+cast-t24 : tie.Need-cast-t24
+cast-t24 c = search needs
+
+returns-5 : tie.Need-returns-5
+unfolding newCount
+returns-5 c = let a = c .before .before .before .before .before .before .before .before .before .before .before .before .args in ap (λ (k : ℕ). given (k ∷ [])) (let z : length (a .ear .now) - 2 ≡ pred (pred (length (a .ear .now))) = omega arith in z) ∙ sym (later-past (a .n) (a .links .now) (a .root) 0 (a .last) (a .births .now) (a .ear .now) ∙ check-miss 13 _ _ _ (c .before .before .before .before .before .before .before .before .first-unborn-end .ensures) (c .before .before .before .before .before .before .before .if1 .left) ∙ check-miss 14 _ _ _ (part-miss (a .ear .now) (marked (a .births .now)) (c .before .before .before .before .before .first-born .ensures) (omega arith)) (omega arith) ∙ check-miss 15 _ _ _ (c .before .before .before .last-too-early .ensures) (c .before .before .if3 .left) ∙ check-miss 16 _ _ _ (part-miss (a .ear .now) (cutOff (a .n) (a .last) (a .links .now) (a .births .now) (a .ear .now)) (c .before .first-cut-off .ensures) (omega arith)) (omega arith))
+
+pub check-later-spec : {M : Type 1} → statement M
+check-later-spec =
+    tie.close
+    (tie.spec
+    first-unborn-end-requires
+    cast-t14
+    returns
+    sub-part
+    sub-part-2
+    part-part-start
+    part-part-end
+    first-born-requires
+    sub-if2
+    add-t19
+    cast-t20
+    returns-2
+    last-too-early-requires
+    cast-t21
+    returns-3
+    first-cut-off-requires
+    sub-if4
+    add-t22
+    cast-t23
+    returns-4
+    sub-t15
+    cast-t24
+    returns-5)

@@ -1,0 +1,77 @@
+use Prim.Native.Nat.{pred, _≤_, _+_, _-_}
+use mathlib.Core.Path.{_≡_, sym, _∙_}
+use lib.ListN.{length}
+use borrow.Author.Needs.{needs}
+use Rattle.judge.proofs.Tests.{not-joined-hit, not-joined-miss}
+use Rattle.mondschein.specs.Network.{low, at, joined, size}
+use Rattle.mondschein.proofs.Search.{rest, rest-begin, rest-hit, rest-miss, rest-end}
+use mathlib.Core.Bool.{not}
+use Rattle.network.specs.Load.{tableOf}
+use Rattle.judge.proofs.first_not_joined.Statement.{statement}
+use Rattle.judge.proofs.first_not_joined.Tie as tie
+
+abbrev Inv-loop : tie.InvT-loop
+Inv-loop links ear m k₀ k = (k ≤ pred (length ear)) × (m ≡ size (tableOf links)) × (low (λ j. not (joined (tableOf links) (at ear j) (at ear (j + 1)))) (pred (length ear)) ≡ rest (λ j. not (joined (tableOf links) (at ear j) (at ear (j + 1)))) (pred (length ear)) k)
+
+abbrev μ-loop : tie.MeasureT-loop
+μ-loop links ear m k₀ k = length ear - k
+
+loop-holds : tie.Need-loop-holds Inv-loop μ-loop
+unfolding size
+loop-holds c = (search needs, search needs, rest-begin _ _)
+
+add-loop : tie.Need-add-loop Inv-loop μ-loop
+add-loop c = search needs
+
+mul-link-of : tie.Need-mul-link-of Inv-loop μ-loop
+mul-link-of c = search needs
+
+shared-slice-read-link-of : tie.Need-shared-slice-read-link-of Inv-loop μ-loop
+shared-slice-read-link-of c = search needs
+
+add-link-of : tie.Need-add-link-of Inv-loop μ-loop
+add-link-of c = search needs
+
+mul-link-of-2 : tie.Need-mul-link-of-2 Inv-loop μ-loop
+mul-link-of-2 c = search needs
+
+shared-slice-read-link-of-2 : tie.Need-shared-slice-read-link-of-2 Inv-loop μ-loop
+shared-slice-read-link-of-2 c = search needs
+
+link-of-requires : tie.Need-link-of-requires Inv-loop μ-loop
+link-of-requires c κs = search needs
+
+returns : tie.Need-returns Inv-loop μ-loop
+returns c = sym (c .before .before .before .before .before .loop .inv .2 ∙ rest-hit _ _ _ (search needs) (not-joined-hit _ _ _ (c .before .before .before .before .before .loop .inv .1) (c .before .link-of .ensures) (c .if1 .taken)))
+
+add-k : tie.Need-add-k Inv-loop μ-loop
+add-k c = search needs
+
+loop-less : tie.Need-loop-less Inv-loop μ-loop
+loop-less c = search needs
+
+loop-again : tie.Need-loop-again Inv-loop μ-loop
+loop-again c = (search needs, c .before .before .before .before .before .loop .inv .1, c .before .before .before .before .before .loop .inv .2 ∙ rest-miss _ _ _ (search needs) (not-joined-miss _ _ _ (c .before .before .before .before .before .loop .inv .1) (c .before .link-of .ensures) (c .if1 .left)))
+
+returns-2 : tie.Need-returns-2 Inv-loop μ-loop
+returns-2 c = sym (c .before .loop .inv .2 ∙ rest-end _ _ _ (search needs))
+
+pub first-not-joined-spec : {M : Type 1} → statement M
+first-not-joined-spec =
+    tie.close
+    (tie.spec
+    Inv-loop
+    μ-loop
+    loop-holds
+    add-loop
+    mul-link-of
+    shared-slice-read-link-of
+    add-link-of
+    mul-link-of-2
+    shared-slice-read-link-of-2
+    link-of-requires
+    returns
+    add-k
+    loop-less
+    loop-again
+    returns-2)

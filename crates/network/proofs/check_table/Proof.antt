@@ -1,0 +1,61 @@
+use mathlib.Core.Path.{sym, _∙_}
+use borrow.Author.Needs.{needs}
+use Rattle.mondschein.specs.Network.{size, former, latter, joins}
+use Rattle.mondschein.specs.Judge.{linkTooLarge, selfLink, repeatedLink}
+use Rattle.network.specs.Load.{tableChecks}
+use Rattle.mondschein.proofs.Checks.{check-hit, check-miss}
+use Rattle.network.proofs.check_table.Statement.{statement}
+use Rattle.network.proofs.check_table.Tie as tie
+
+first-link-too-large-requires : tie.Need-first-link-too-large-requires
+first-link-too-large-requires c κs = search needs
+
+cast-t12 : tie.Need-cast-t12
+cast-t12 c = search needs
+
+returns : tie.Need-returns
+unfolding tableChecks linkTooLarge former latter size
+returns c = sym (check-hit _ _ _ _ (c .before .first-link-too-large .ensures) (c .if1 .taken))
+
+first-self-link-requires : tie.Need-first-self-link-requires
+first-self-link-requires c κs = search needs
+
+cast-t13 : tie.Need-cast-t13
+cast-t13 c = search needs
+
+returns-2 : tie.Need-returns-2
+unfolding tableChecks linkTooLarge selfLink former latter size
+returns-2 c = sym (check-miss _ _ _ _ (c .before .before .before .first-link-too-large .ensures) (c .before .before .if1 .left) ∙ check-hit _ _ _ _ (c .before .first-self-link .ensures) (c .if2 .taken))
+
+first-repeated-link-requires : tie.Need-first-repeated-link-requires
+first-repeated-link-requires c κs = search needs
+
+cast-t14 : tie.Need-cast-t14
+cast-t14 c = search needs
+
+returns-3 : tie.Need-returns-3
+unfolding tableChecks linkTooLarge selfLink repeatedLink joins former latter size
+returns-3 c = sym (check-miss _ _ _ _ (c .before .before .before .before .before .first-link-too-large .ensures) (c .before .before .before .before .if1 .left) ∙ check-miss _ _ _ _ (c .before .before .before .first-self-link .ensures) (c .before .before .if2 .left) ∙ check-hit _ _ _ _ (c .before .first-repeated-link .ensures) (c .if3 .taken))
+
+check-names-requires : tie.Need-check-names-requires
+check-names-requires c κs = search needs
+
+returns-4 : tie.Need-returns-4
+unfolding tableChecks linkTooLarge selfLink repeatedLink joins former latter size
+returns-4 c = c .check-names .ensures ∙ sym (check-miss _ _ _ _ (c .before .before .before .before .before .before .first-link-too-large .ensures) (c .before .before .before .before .before .if1 .left) ∙ check-miss _ _ _ _ (c .before .before .before .before .first-self-link .ensures) (c .before .before .before .if2 .left) ∙ check-miss _ _ _ _ (c .before .before .first-repeated-link .ensures) (c .before .if3 .left))
+
+pub check-table-spec : {M : Type 1} → statement M
+check-table-spec =
+    tie.close
+    (tie.spec
+    first-link-too-large-requires
+    cast-t12
+    returns
+    first-self-link-requires
+    cast-t13
+    returns-2
+    first-repeated-link-requires
+    cast-t14
+    returns-3
+    check-names-requires
+    returns-4)
