@@ -8,7 +8,6 @@ ghost use lib.Dec.{eqb, ltb, leb};
 ghost use lib.ListN.{length};
 ghost use Rattle.mondschein.specs.Network.{low, any, at, holds, joined, linkOf, isNew, newCount};
 ghost use Rattle.mondschein.specs.Judge.{given, lastMisplaced, verdict};
-ghost use Rattle.mondschein.specs.Order.{position};
 ghost use Rattle.network.specs.Load.{networkOf, tableOf};
 ghost use Rattle.judge.specs.Ear.{marked, leadsTo, earAnswer, shapeChecks, placeChecks};
 
@@ -16,20 +15,6 @@ ghost use Rattle.judge.specs.Ear.{marked, leadsTo, earAnswer, shapeCheck
 pub enum Ear {
     New(u16),
     Refused(u8, u16),
-}
-
-// The index of x in the list, or its length.
-pub fn position_of(list: &[u16], x: u16) -> usize
-    ensures { λ r. ⌜ r ≡ position (now (list .entry)) x ⌝ }
-{
-    let mut k = 0;
-    while k < list.len() {
-        if list[k] == x {
-            return k;
-        }
-        k += 1;
-    }
-    k
 }
 
 // 8: the first number of n or more.
@@ -52,7 +37,7 @@ pub fn first_repeated(ear: &[u16]) -> usize
 {
     let mut k = 0;
     while k < ear.len() {
-        if position_of(ear, ear[k]) < k {
+        if order::position_of(ear, ear[k]) < k {
             return k;
         }
         k += 1;
@@ -147,7 +132,7 @@ fn unborn(births: &[u16], ear: &[u16], x: u16) -> bool
     if 0 < birth_of(births, x) {
         return false;
     }
-    ear.len() <= position_of(ear, x)
+    ear.len() <= order::position_of(ear, x)
 }
 
 // 15: a switch below n other than last is still unborn after the ear.
@@ -291,7 +276,7 @@ fn last_too_early(n: u16, root: u16, last: u16, births: &[u16], ear: &[u16]) -> 
 {
     let len = ear.len();
     let part = &ear[1..len - 1];
-    let place = position_of(part, last);
+    let place = order::position_of(part, last);
     if len - 2 <= place {
         return len;
     }
@@ -330,7 +315,7 @@ fn check_first(
     if ear[len - 1] != first {
         return Ear::Refused(12, 0);
     }
-    let early = position_of(ear, last);
+    let early = order::position_of(ear, last);
     if early < len {
         return Ear::Refused(15, early as u16);
     }

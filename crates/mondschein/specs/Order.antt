@@ -1,6 +1,6 @@
 -- Document 01, "Order, tables and walks": the order of switches, the three parent tables and the walks, as its rules compute
 -- them. Routes.antt says the same as relations.
-use mathlib.Core.Bool.{_&&_, cond}
+use mathlib.Core.Bool.{Bool, _&&_, cond}
 use mathlib.Core.List.{List, [], _∷_, _++_, reverse, foldl}
 use Prim.Native.Nat.{ℕ, zero, suc, pred}
 use lib.Dec.{eqb, ltb}
@@ -11,9 +11,13 @@ use Rattle.mondschein.specs.Network.{low, Network, at, joined, Ears, ear
 unfoldable pub position : List ℕ → ℕ → ℕ
 position l x = low (λ k. eqb (at l k) x) (length l)
 
--- a later ear from A, the end that comes earlier in the order so far, to B, the other
+-- the ear is written from A, the end that comes earlier in the order so far, to B, the other
+abbrev pub upward : List ℕ → List ℕ → Bool
+upward o e = ltb (position o (at e 0)) (position o (at e (pred (length e))))
+
+-- a later ear from A to B
 unfoldable pub fromA : List ℕ → List ℕ → List ℕ
-fromA o e = cond (ltb (position o (at e 0)) (position o (at e (pred (length e))))) e (reverse e)
+fromA o e = cond (upward o e) e (reverse e)
 
 -- the numbers between the two ends
 unfoldable pub between : List ℕ → List ℕ

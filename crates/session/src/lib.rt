@@ -1,0 +1,192 @@
+// The session, by value, and its calls. Each call gives its answer and the session after it.
+// A call that refuses gives back the session that it got.
+use judge::Ear;
+use network::Load;
+use tables::Close;
+ghost use mathlib.Core.Path.{_≡_};
+ghost use mathlib.Core.List.{[]};
+ghost use Prim.Native.Nat.{_≤_};
+ghost use lib.ListN.{length};
+ghost use Rattle.mondschein.specs.Judge.{refused, wrongSize, loading};
+ghost use Rattle.mondschein.specs.Machine.{settle};
+ghost use Rattle.network.specs.Load.{networkOf};
+ghost use Rattle.session.specs.Session.{emptySession, padded, openedWith, loadedBy, clearedBy, loadOutcome, clearOutcome};
+
+pub enum Stage {
+    Empty,
+    Open,
+    Closed,
+}
+
+// The network (its table flat, as lent), used links (1), the count of long ears, births by long ear (0 unborn), the order with its
+// count `born`, and the three parent tables.
+pub struct Session {
+    pub stage: Stage,
+    pub n: u16,
+    pub m: u16,
+    pub root: u16,
+    pub first: u16,
+    pub last: u16,
+    pub links: [u16; 8192],
+    pub used: [u8; 4096],
+    pub longs: u16,
+    pub births: [u16; 1024],
+    pub born: u16,
+    pub order: [u16; 1024],
+    pub tree1: [u16; 1024],
+    pub tree2: [u16; 1024],
+    pub tree3: [u16; 1024],
+}
+
+impl Session {
+    pub const MIN_SWITCHES: u16 = 4;
+
+    pub const MAX_SWITCHES: u16 = 1024;
+
+    pub const MIN_LINKS: u16 = 6;
+
+    pub const MAX_LINKS: u16 = 4096;
+
+    // The fresh session.
+    pub fn empty() -> Self
+        ensures { λ r. ⌜ r ≡ emptySession ⌝ }
+    {
+        Session {
+            stage: Stage::Empty,
+            n: 0,
+            m: 0,
+            root: 0,
+            first: 0,
+            last: 0,
+            links: [0u16; 8192],
+            used: [0u8; 4096],
+            longs: 0,
+            births: [0u16; 1024],
+            born: 0,
+            order: [0u16; 1024],
+            tree1: [0u16; 1024],
+            tree2: [0u16; 1024],
+            tree3: [0u16; 1024],
+        }
+    }
+}
+
+// What load answers, and the session after it.
+pub struct Loading {
+    pub answer: Load,
+    pub session: Session,
+}
+
+// What an ear is answered, and the session after it.
+pub struct Offering {
+    pub answer: Ear,
+    pub session: Session,
+}
+
+// What close answers, and the session after it.
+pub struct Closing {
+    pub answer: Close,
+    pub session: Session,
+}
+
+// Clears the session: always succeeds.
+pub fn clear(s: Session) -> Session
+    ensures { λ r. ⌜ clearOutcome r ≡ clearedBy s ⌝ }
+{
+    Session::empty()
+}
+
+// The numbers at the start of an array of zeros.
+fn padded_links(links: &[u16]) -> [u16; 8192]
+    requires { ⌜ length (now links) ≤ 8192 ⌝ }
+    ensures { λ r. ⌜ r ≡ padded 8192 (now (links .entry)) ⌝ }
+{
+    let mut table = [0u16; 8192];
+    let mut i = 0;
+    while i < links.len() {
+        table[i] = links[i];
+        i += 1;
+    }
+    table
+}
+
+// Check 1: N or M outside its limits, or half a link.
+fn wrong_size(n: u16, links: &[u16]) -> bool
+    ensures { λ r. ⌜ r ≡ wrongSize (networkOf n (now (links .entry)) 0 0 0) 0 ⌝ }
+{
+    let m = links.len() / 2;
+    if n < Session::MIN_SWITCHES {
+        return true;
+    }
+    if Session::MAX_SWITCHES < n {
+        return true;
+    }
+    if m < (Session::MIN_LINKS as usize) {
+        return true;
+    }
+    if (Session::MAX_LINKS as usize) < m {
+        return true;
+    }
+    links.len() % 2 != 0
+}
+
+// The session that has loaded a network.
+fn opened(n: u16, links: &[u16], root: u16, first: u16, last: u16) -> Session
+    requires { ⌜ length (now links) ≤ 8192 ⌝ }
+    ensures { λ r. ⌜ r ≡ openedWith (networkOf n (now (links .entry)) root first last) ⌝ }
+{
+    let table = padded_links(links);
+    Session {
+        stage: Stage::Open,
+        n,
+        m: (links.len() / 2) as u16,
+        root,
+        first,
+        last,
+        links: table,
+        used: [0u8; 4096],
+        longs: 0,
+        births: [0u16; 1024],
+        born: 0,
+        order: [0u16; 1024],
+        tree1: [0u16; 1024],
+        tree2: [0u16; 1024],
+        tree3: [0u16; 1024],
+    }
+}
+
+fn load_refused(number: u8, place: u16, s: Session) -> Loading
+    ensures { λ r. ⌜ loadOutcome r ≡ record { answer = refused number place; after = s } ⌝ }
+{
+    let answer = Load::Refused(number, place);
+    Loading { answer, session: s }
+}
+
+// Checks 1 to 6, and the session that has loaded the network where they are clear.
+fn load_empty(s: Session, n: u16, links: &[u16], root: u16, first: u16, last: u16) -> Loading
+    ensures { λ r. ⌜ loadOutcome r ≡ settle s (openedWith (networkOf n (now (links .entry)) root first last)) (loading (networkOf n (now (links .entry)) root first last)) ⌝ }
+{
+    if wrong_size(n, links) {
+        return load_refused(1, 0, s);
+    }
+    let answer = network::check_table(n, links, root, first, last);
+    match answer {
+        Load::Refused(number, place) => load_refused(number, place, s),
+        Load::Loaded(switches, size) => {
+            let session = opened(n, links, root, first, last);
+            Loading { answer, session }
+        }
+    }
+}
+
+// Loads a network into an empty session: 20 on any other, then checks 1 to 6.
+pub fn load(s: Session, n: u16, links: &[u16], root: u16, first: u16, last: u16) -> Loading
+    ensures { λ r. ⌜ loadOutcome r ≡ loadedBy s (networkOf n (now (links .entry)) root first last) ⌝ }
+{
+    let stage = s.stage;
+    match stage {
+        Stage::Empty => load_empty(s, n, links, root, first, last),
+        Stage::Open => load_refused(20, 0, s),
+        Stage::Closed => load_refused(20, 0, s),
+    }
+}
