@@ -5,11 +5,11 @@ use Rattle.order.proofs.Insertion.{upward-by}
 use Rattle.order.proofs.upward.Statement.{statement}
 use Rattle.order.proofs.upward.Tie as tie
 
-count-of-requires : tie.Need-count-of-requires
-count-of-requires c κs = search needs
+least-requires : tie.Need-least-requires
+least-requires c κs = search needs
 
 slice-aggregate-list : tie.Need-slice-aggregate-list
-slice-aggregate-list c = omega (arith, c .before .count-of .ensures, length-take (c .before .count-of .result) (c .before .before .before .before .args .order .now))
+slice-aggregate-list c = omega (arith, c .before .least .ensures, length-take (c .before .least .result) (c .before .before .before .before .args .order .now))
 
 shared-slice-read-position-of : tie.Need-shared-slice-read-position-of
 shared-slice-read-position-of c = search needs
@@ -30,13 +30,13 @@ position-of-requires-2 : tie.Need-position-of-requires-2
 position-of-requires-2 c κs = search needs
 
 returns : tie.Need-returns
-returns c = upward-by (c .before .before .before .before .before .before .before .before .args .born) (c .before .before .before .before .before .before .before .before .args .order .now) (c .before .before .before .before .before .before .before .before .args .ear .now) (c .before .before .before .before .before .count-of .ensures) (c .before .before .position-of .ensures) (c .position-of2 .ensures)
+returns c = upward-by (c .before .before .before .before .before .before .before .before .args .born) (c .before .before .before .before .before .before .before .before .args .order .now) (c .before .before .before .before .before .before .before .before .args .ear .now) (c .before .before .before .before .before .least .ensures) (c .before .before .position-of .ensures) (c .position-of2 .ensures)
 
 pub upward-spec : {M : Type 1} → statement M
 upward-spec =
     tie.close
     (tie.spec
-    count-of-requires
+    least-requires
     slice-aggregate-list
     shared-slice-read-position-of
     position-of-requires
