@@ -9,7 +9,7 @@ use Rattle.mondschein.specs.Judge.{Answer, given, refused, loading, verdict, cl
 use Rattle.mondschein.specs.Machine.{Call, load, ear, close, clear, Outcome, settle}
 use Rattle.network.specs.Load.{networkOf, loadAnswer}
 use Rattle.judge.specs.Ear.{marked, earAnswer}
-use Rattle.tables.specs.Tables.{Tables, afterEar, tree3Of, closeAnswer}
+use Rattle.tables.specs.Tables.{Tables, tablesOf, afterEar, tree3Of, closeAnswer}
 use Rattle.session.specs.declared.Stage.{Stage}
 use Rattle.session.specs.declared.Stage.the-variants.{Empty, Open, Closed}
 use Rattle.session.specs.declared.Session.{Session}
@@ -68,7 +68,7 @@ abbrev pub networkIn : Session → Network
 networkIn s = networkOf (s .n) (take (2 * s .m) (s .links)) (s .root) (s .first) (s .last)
 
 abbrev pub tablesIn : Session → Tables
-tablesIn s = record { used = s .used; longs = s .longs; births = s .births; born = s .born; order = s .order; tree1 = s .tree1; tree2 = s .tree2 }
+tablesIn s = tablesOf (s .used) (s .longs) (s .births) (s .born) (s .order) (s .tree1) (s .tree2)
 
 -- the session with other tables
 abbrev pub withTables : Session → Tables → Session

@@ -4,10 +4,10 @@ ghost use mathlib.Core.Path.{_≡_};
 ghost use mathlib.Core.Bool.{true, cond};
 ghost use mathlib.Core.List.{[]};
 ghost use Prim.Native.Nat.{suc, pred, _≤_};
-ghost use lib.ListN.{length, set};
+ghost use lib.ListN.{length, set, take};
 ghost use Rattle.mondschein.specs.Network.{at, linkOf};
 ghost use Rattle.network.specs.Load.{tableOf};
-ghost use Rattle.tables.specs.Tables.{assigned, usedAfter, birthsAfter, neighbours, tree1After, tree2After};
+ghost use Rattle.tables.specs.Tables.{assigned, usedAfter, longsAfter, newOf, birthsAfter, neighbours, tree1After, tree2After, tablesOf, afterEar};
 
 // The answer to close: closed, or a refusal's number and place.
 pub enum Close {
@@ -109,4 +109,74 @@ fn set_later_parents(upward: bool, ear: &[u16], tree1: &mut [u16], tree2: &mut [
     }
     set_neighbours(ear, 2, tree1);
     set_neighbours(ear, 0, tree2);
+}
+
+// The number of long ears after one more ear; it stops at 1,024.
+fn count_long(longs: u16, ear: &[u16]) -> u16
+    ensures { λ r. ⌜ r ≡ longsAfter longs (now (ear .entry)) ⌝ }
+{
+    if ear.len() == 2 {
+        return longs;
+    }
+    if 1024 <= longs {
+        return longs;
+    }
+    longs + 1
+}
+
+// Births and the parents in trees 1 and 2 of the new switches of an accepted ear, which is long ear b where it is long.
+fn set_new(
+    initial: bool,
+    b: u16,
+    order: &[u16],
+    born: u16,
+    ear: &[u16],
+    births: &mut [u16],
+    tree1: &mut [u16],
+    tree2: &mut [u16],
+)
+    requires { ⌜ 2 ≤ length (now ear) ⌝ }
+    ensures { λ _. ⌜ (now (births .exit) ≡ birthsAfter b (newOf initial (now (ear .entry))) (now (births .entry))) × (now (tree1 .exit) ≡ tree1After initial (take born (now (order .entry))) (now (ear .entry)) (now (tree1 .entry))) × (now (tree2 .exit) ≡ tree2After initial (take born (now (order .entry))) (now (ear .entry)) (now (tree2 .entry))) ⌝ }
+{
+    if initial {
+        set_births(ear, b, births);
+        set_first_parents(ear, tree1, tree2);
+        return;
+    }
+    let len = ear.len();
+    set_births(&ear[1..len - 1], b, births);
+    let upward = order::upward(order, born, ear);
+    set_later_parents(upward, ear, tree1, tree2);
+}
+
+// The counts that an ear leaves: of the long ears, and of the switches in the order.
+pub struct Counts {
+    pub longs: u16,
+    pub born: u16,
+}
+
+// Writes an accepted ear into the tables.
+pub fn accept(
+    links: &[u16],
+    ear: &[u16],
+    longs: u16,
+    born: u16,
+    used: &mut [u8],
+    births: &mut [u16],
+    order: &mut [u16],
+    tree1: &mut [u16],
+    tree2: &mut [u16],
+) -> Counts
+    requires { ⌜ (2 ≤ length (now ear)) × (length (now order) ≤ 1024) ⌝ }
+    ensures { λ r. ⌜ tablesOf (now (used .exit)) (r .longs) (now (births .exit)) (r .born) (now (order .exit)) (now (tree1 .exit)) (now (tree2 .exit)) ≡ afterEar (tableOf (now (links .entry))) (now (ear .entry)) (tablesOf (now (used .entry)) longs (now (births .entry)) born (now (order .entry)) (now (tree1 .entry)) (now (tree2 .entry))) ⌝ }
+{
+    let initial = born == 0;
+    let counted = count_long(longs, ear);
+    mark_ear(links, initial, ear, used);
+    set_new(initial, counted, order, born, ear, births, tree1, tree2);
+    let grown = order::insert(order, born, ear);
+    Counts {
+        longs: counted,
+        born: grown,
+    }
 }
