@@ -5,12 +5,15 @@ use network::Load;
 use tables::Close;
 ghost use mathlib.Core.Path.{_≡_};
 ghost use mathlib.Core.List.{[]};
-ghost use Prim.Native.Nat.{_≤_};
+ghost use Prim.Native.Nat.{_*_, _≤_, min};
+ghost use lib.Dec.{eqb};
 ghost use lib.ListN.{length};
-ghost use Rattle.mondschein.specs.Judge.{refused, wrongSize, loading};
+ghost use Rattle.mondschein.specs.Judge.{refused, wrongSize, loading, verdict};
 ghost use Rattle.mondschein.specs.Machine.{settle};
 ghost use Rattle.network.specs.Load.{networkOf};
-ghost use Rattle.session.specs.Session.{emptySession, padded, openedWith, loadedBy, clearedBy, loadOutcome, clearOutcome};
+ghost use Rattle.judge.specs.Ear.{marked};
+ghost use Rattle.tables.specs.Tables.{afterEar};
+ghost use Rattle.session.specs.Session.{emptySession, padded, openedWith, networkIn, tablesIn, withTables, loadedBy, offeredBy, clearedBy, loadOutcome, earOutcome, clearOutcome};
 
 pub enum Stage {
     Empty,
@@ -188,5 +191,107 @@ pub fn load(s: Session, n: u16, links: &[u16], root: u16, first: u16, last: u16)
         Stage::Empty => load_empty(s, n, links, root, first, last),
         Stage::Open => load_refused(20, 0, s),
         Stage::Closed => load_refused(20, 0, s),
+    }
+}
+
+// How many numbers at the start of the link table are links: two for each, and no more than there are.
+fn table_length(m: u16) -> usize
+    ensures { λ r. ⌜ r ≡ min (2 * m) 8192 ⌝ }
+{
+    let numbers = 2 * (m as usize);
+    if numbers < 8192 {
+        return numbers;
+    }
+    8192
+}
+
+fn ear_refused(number: u8, place: u16, s: Session) -> Offering
+    ensures { λ r. ⌜ earOutcome r ≡ record { answer = refused number place; after = s } ⌝ }
+{
+    let answer = Ear::Refused(number, place);
+    Offering { answer, session: s }
+}
+
+// The session after an accepted ear.
+fn accepted(s: Session, ear: &[u16]) -> Session
+    requires { ⌜ 2 ≤ length (now ear) ⌝ }
+    ensures { λ r. ⌜ r ≡ withTables s (afterEar (networkIn s) (now (ear .entry)) (tablesIn s)) ⌝ }
+{
+    let stage = s.stage;
+    let links = s.links;
+    let mut used = s.used;
+    let mut births = s.births;
+    let mut order = s.order;
+    let mut tree1 = s.tree1;
+    let mut tree2 = s.tree2;
+    let tree3 = s.tree3;
+    let numbers = table_length(s.m);
+    let counts = tables::accept(
+        &links[..numbers],
+        ear,
+        s.longs,
+        s.born,
+        &mut used,
+        &mut births,
+        &mut order,
+        &mut tree1,
+        &mut tree2,
+    );
+    Session {
+        stage,
+        n: s.n,
+        m: s.m,
+        root: s.root,
+        first: s.first,
+        last: s.last,
+        links,
+        used,
+        longs: counts.longs,
+        births,
+        born: counts.born,
+        order,
+        tree1,
+        tree2,
+        tree3,
+    }
+}
+
+// Checks 7 to 16, and the session that has accepted the ear where they are clear.
+fn ear_open(s: Session, ear: &[u16]) -> Offering
+    ensures { λ r. ⌜ earOutcome r ≡ settle s (withTables s (afterEar (networkIn s) (now (ear .entry)) (tablesIn s))) (verdict (networkIn s) (marked (s .births)) (marked (s .used)) (eqb (s .born) 0) (now (ear .entry))) ⌝ }
+{
+    let links = s.links;
+    let births = s.births;
+    let used = s.used;
+    let numbers = table_length(s.m);
+    let answer = judge::judge(
+        s.n,
+        &links[..numbers],
+        s.root,
+        s.first,
+        s.last,
+        &births,
+        &used,
+        s.born == 0,
+        ear,
+    );
+    match answer {
+        Ear::Refused(number, place) => ear_refused(number, place, s),
+        Ear::New(count) => {
+            let session = accepted(s, ear);
+            Offering { answer, session }
+        }
+    }
+}
+
+// Offers an ear to an open session: 19 on an empty one, 22 on a closed one, then checks 7 to 16.
+pub fn ear(s: Session, ear: &[u16]) -> Offering
+    ensures { λ r. ⌜ earOutcome r ≡ offeredBy s (now (ear .entry)) ⌝ }
+{
+    let stage = s.stage;
+    match stage {
+        Stage::Empty => ear_refused(19, 0, s),
+        Stage::Open => ear_open(s, ear),
+        Stage::Closed => ear_refused(22, 0, s),
     }
 }
