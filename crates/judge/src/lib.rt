@@ -315,9 +315,9 @@ fn check_first(
     if ear[len - 1] != first {
         return Ear::Refused(12, 0);
     }
-    let early = order::position_of(ear, last);
-    if early < len {
-        return Ear::Refused(15, early as u16);
+    let place = order::position_of(ear, last);
+    if place < len {
+        return Ear::Refused(15, place as u16);
     }
     let cut = first_cut_off(n, last, links, births, ear, ear);
     if cut < len {

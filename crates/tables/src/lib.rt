@@ -1,9 +1,112 @@
 // The tables of a session on lent slices: what one accepted ear changes in them, tree 3, and the check of closing.
 // A number past the end of a table changes nothing.
 ghost use mathlib.Core.Path.{_≡_};
+ghost use mathlib.Core.Bool.{true, cond};
+ghost use mathlib.Core.List.{[]};
+ghost use Prim.Native.Nat.{suc, pred, _≤_};
+ghost use lib.ListN.{length, set};
+ghost use Rattle.mondschein.specs.Network.{at, linkOf};
+ghost use Rattle.network.specs.Load.{tableOf};
+ghost use Rattle.tables.specs.Tables.{assigned, usedAfter, birthsAfter, neighbours, tree1After, tree2After};
 
 // The answer to close: closed, or a refusal's number and place.
 pub enum Close {
     Closed,
     Refused(u8, u16),
+}
+
+// Marks link l.
+fn mark(used: &mut [u8], l: usize)
+    ensures { λ _. ⌜ now (used .exit) ≡ set (now (used .entry)) l 1 ⌝ }
+{
+    if l < used.len() {
+        used[l] = 1;
+    }
+}
+
+// The entry of switch v.
+fn store(row: &mut [u16], v: u16, entry: u16)
+    ensures { λ _. ⌜ now (row .exit) ≡ set (now (row .entry)) v entry ⌝ }
+{
+    let i = v as usize;
+    if i < row.len() {
+        row[i] = entry;
+    }
+}
+
+// Marks the links between two neighbours of the ear.
+fn mark_along(links: &[u16], ear: &[u16], used: &mut [u8])
+    ensures { λ _. ⌜ now (used .exit) ≡ assigned (now (used .entry)) (λ k. linkOf (tableOf (now (links .entry))) (at (now (ear .entry)) k) (at (now (ear .entry)) (suc k))) (λ k. 1) (pred (length (now (ear .entry)))) ⌝ }
+{
+    let mut k = 0;
+    while k + 1 < ear.len() {
+        let l = network::link_of(links, ear[k], ear[k + 1]);
+        mark(used, l);
+        k += 1;
+    }
+}
+
+// Marks the links of an ear, and of a first ear its closing link.
+fn mark_ear(links: &[u16], initial: bool, ear: &[u16], used: &mut [u8])
+    requires { ⌜ 2 ≤ length (now ear) ⌝ }
+    ensures { λ _. ⌜ now (used .exit) ≡ usedAfter (tableOf (now (links .entry))) initial (now (ear .entry)) (now (used .entry)) ⌝ }
+{
+    mark_along(links, ear, used);
+    if initial {
+        let len = ear.len();
+        let l = network::link_of(links, ear[len - 1], ear[0]);
+        mark(used, l);
+    }
+}
+
+// The new switches are born in long ear b.
+fn set_births(new: &[u16], b: u16, births: &mut [u16])
+    ensures { λ _. ⌜ now (births .exit) ≡ birthsAfter b (now (new .entry)) (now (births .entry)) ⌝ }
+{
+    let mut k = 0;
+    while k < new.len() {
+        store(births, new[k], b);
+        k += 1;
+    }
+}
+
+// Each switch between the ends of an ear gets its neighbour in the ear, the former for d = 0, the latter for d = 2.
+fn set_neighbours(ear: &[u16], d: usize, row: &mut [u16])
+    requires { ⌜ d ≤ 2 ⌝ }
+    ensures { λ _. ⌜ now (row .exit) ≡ neighbours (now (ear .entry)) d (now (row .entry)) ⌝ }
+{
+    let mut k = 0;
+    while k + 2 < ear.len() {
+        store(row, ear[k + 1], ear[k + d]);
+        k += 1;
+    }
+}
+
+// Trees 1 and 2 of a first ear: along it towards root and towards first; root for the root itself and for first in tree 2.
+fn set_first_parents(ear: &[u16], tree1: &mut [u16], tree2: &mut [u16])
+    requires { ⌜ 2 ≤ length (now ear) ⌝ }
+    ensures { λ _. ⌜ (now (tree1 .exit) ≡ tree1After true [] (now (ear .entry)) (now (tree1 .entry))) × (now (tree2 .exit) ≡ tree2After true [] (now (ear .entry)) (now (tree2 .entry))) ⌝ }
+{
+    let len = ear.len();
+    let root = ear[0];
+    let first = ear[len - 1];
+    set_neighbours(ear, 0, tree1);
+    store(tree1, first, ear[len - 2]);
+    store(tree1, root, root);
+    set_neighbours(ear, 2, tree2);
+    store(tree2, first, root);
+    store(tree2, root, root);
+}
+
+// Trees 1 and 2 of a later ear, written from A to B, or from B to A.
+fn set_later_parents(upward: bool, ear: &[u16], tree1: &mut [u16], tree2: &mut [u16])
+    ensures { λ _. ⌜ (now (tree1 .exit) ≡ neighbours (now (ear .entry)) (cond upward 0 2) (now (tree1 .entry))) × (now (tree2 .exit) ≡ neighbours (now (ear .entry)) (cond upward 2 0) (now (tree2 .entry))) ⌝ }
+{
+    if upward {
+        set_neighbours(ear, 0, tree1);
+        set_neighbours(ear, 2, tree2);
+        return;
+    }
+    set_neighbours(ear, 2, tree1);
+    set_neighbours(ear, 0, tree2);
 }

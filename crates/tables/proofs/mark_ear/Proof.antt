@@ -1,0 +1,54 @@
+use Rattle.network.specs.Load.{tableOf}
+use Rattle.tables.proofs.Steps.{used-first, used-later}
+use borrow.Author.Needs.{needs}
+use Rattle.tables.proofs.mark_ear.Statement.{statement}
+use Rattle.tables.proofs.mark_ear.Tie as tie
+
+mark-along-requires : tie.Need-mark-along-requires
+mark-along-requires c κs = search needs
+
+sub-link-of : tie.Need-sub-link-of
+sub-link-of c = search needs
+
+mul-link-of : tie.Need-mul-link-of
+mul-link-of c = search needs
+
+shared-slice-read-link-of : tie.Need-shared-slice-read-link-of
+shared-slice-read-link-of c = search needs
+
+shared-slice-read-link-of-2 : tie.Need-shared-slice-read-link-of-2
+shared-slice-read-link-of-2 c = search needs
+
+link-of-requires : tie.Need-link-of-requires
+link-of-requires c κs = search needs
+
+mark-requires : tie.Need-mark-requires
+mark-requires c κs = search needs
+
+same-length : tie.Need-same-length
+same-length c = search needs
+
+returns : tie.Need-returns
+returns c = let a = c .before .before .before .before .before .before .before .before .before .before .before .before .before .before .before .args in used-first (tableOf (a .links .now)) (a .initial) (a .ear .now) (a .used .now) (c .before .before .before .before .before .before .before .before .before .before .mark-along .ensures) (c .before .before .before .before .before .before .before .if1 .taken) (c .before .before .before .before .link-of .ensures) (c .before .before .mark .ensures)
+
+same-length-2 : tie.Need-same-length-2
+same-length-2 c = search needs
+
+returns-2 : tie.Need-returns-2
+returns-2 c = let a = c .before .before .before .before .before .before .before .before .args in used-later (tableOf (a .links .now)) (a .initial) (a .ear .now) (a .used .now) (c .before .before .before .mark-along .ensures) (c .if1 .left)
+
+pub mark-ear-spec : {M : Type 1} → statement M
+mark-ear-spec =
+    tie.close
+    (tie.spec
+    mark-along-requires
+    sub-link-of
+    mul-link-of
+    shared-slice-read-link-of
+    shared-slice-read-link-of-2
+    link-of-requires
+    mark-requires
+    same-length
+    returns
+    same-length-2
+    returns-2)
