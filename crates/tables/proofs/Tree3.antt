@@ -13,7 +13,7 @@ use lib.Seq.{set-out, set-getD, getD-set-same, getD-set-other, ext-getD}
 use borrow.Author.Tests.{lt-ltb, le-ltb, eqb-true, eq-eqb, ne-eqb}
 use Rattle.mondschein.specs.Network.{low, any, at, size, former, latter, joins, joined}
 use Rattle.mondschein.specs.Order.{parent3By}
-use Rattle.mondschein.proofs.Logic.{less?, same?, and-true, or-true, true-and, or-left, true-or, false-or}
+use Rattle.mondschein.proofs.Logic.{less?, same?, and-true, or-true, true-and, or-left, true-or, false-and, false-or}
 use Rattle.mondschein.proofs.Search.{low-is, low-eq, low-ext, low-none, false-any, any-suc}
 use Rattle.mondschein.proofs.Links.{joins-cases, cases-joins}
 use Rattle.network.specs.Load.{networkOf, tableOf}
@@ -23,7 +23,7 @@ use Rattle.tables.specs.Tables.{assigned, tree3Of}
 abbrev pub lowered : List ℕ → List ℕ → ℕ → ℕ → List ℕ
 lowered row births a b = set row a (cond (ltb (at births a) (at births b) && ltb b (at row a)) b (at row a))
 
--- by the comparisons of the code: p and q are the births of b and a
+-- by the comparisons of the code; p and q are the births of b and a
 module _ (row births : List ℕ) (a b : ℕ) where
   kept : (ltb (at births a) (at births b) && ltb b (at row a)) ≡ false → row ≡ lowered row births a b
   kept f = sym (ap (λ (t : Bool). set row a (cond t b (at row a))) f ∙ set-getD row a 0)
@@ -31,12 +31,12 @@ module _ (row births : List ℕ) (a b : ℕ) where
   pub lowered-outside : length row ≤ a → row ≡ lowered row births a b
   lowered-outside h = sym (set-out row a _ h)
 
+  pub lowered-higher : at row a ≤ b → row ≡ lowered row births a b
+  lowered-higher h = kept (false-and (ltb (at births a) (at births b)) _ (λ t. le-ltb b (at row a) h))
+
   module _ {p q : ℕ} (e : p ≡ at births b) (f : q ≡ at births a) where
     pub lowered-elder : p ≤ q → row ≡ lowered row births a b
     lowered-elder h = kept (ap (λ (t : Bool). t && ltb b (at row a)) (le-ltb (at births a) (at births b) (omega arith)))
-
-    pub lowered-higher : q < p → at row a ≤ b → row ≡ lowered row births a b
-    lowered-higher h l = kept (ap₂ _&&_ (lt-ltb (at births a) (at births b) (omega arith)) (le-ltb b (at row a) l))
 
     pub lowered-to : q < p → b < at row a → set row a b ≡ lowered row births a b
     lowered-to h l = sym (ap (λ (t : Bool). set row a (cond t b (at row a))) (ap₂ _&&_ (lt-ltb (at births a) (at births b) (omega arith)) (lt-ltb b (at row a) l)))

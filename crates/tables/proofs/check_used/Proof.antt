@@ -1,7 +1,6 @@
-use Prim.Native.Nat.{ℕ, _≤_, _-_, _/_}
-use mathlib.Core.Path.{_≡_, refl, sym, ap, _∙_}
+use Prim.Native.Nat.{ℕ, _≤_, _-_}
+use mathlib.Core.Path.{_≡_, sym, ap, _∙_}
 use native.Mathlib.Omega.{arith}
-use lib.ListN.{length}
 use borrow.Author.Needs.{needs}
 use mathlib.Core.Bool.{Bool, not}
 use Rattle.mondschein.specs.Network.{low, size}
@@ -14,13 +13,13 @@ use Rattle.tables.proofs.check_used.Statement.{statement}
 use Rattle.tables.proofs.check_used.Tie as tie
 
 abbrev Inv-loop : tie.InvT-loop
-Inv-loop links used m i₀ i = let p : ℕ → Bool = λ l. not (marked used l) in (i ≤ m) × (m ≡ length links / 2) × (low p m ≡ rest p m i)
+Inv-loop links used m i₀ i = let p : ℕ → Bool = λ l. not (marked used l) in (i ≤ m) × (low p m ≡ rest p m i)
 
 abbrev μ-loop : tie.MeasureT-loop
 μ-loop links used m i₀ i = m - i
 
 loop-holds : tie.Need-loop-holds Inv-loop μ-loop
-loop-holds c = (search needs, refl, rest-begin _ _)
+loop-holds c = (search needs, rest-begin _ _)
 
 mark-at-requires : tie.Need-mark-at-requires Inv-loop μ-loop
 mark-at-requires c κs = search needs
@@ -30,7 +29,7 @@ cast-t8 c = search needs
 
 returns : tie.Need-returns Inv-loop μ-loop
 unfolding closing size
-returns c = sym (check-hit _ _ _ _ (sym (c .before .before .before .loop .inv .2 ∙ rest-hit _ _ _ (c .before .before .loop-test .taken) (ap not (marked-miss (c .before .mark-at .ensures) (omega arith))))) (c .before .before .loop-test .taken))
+returns c = sym (check-hit _ _ _ _ (sym (c .before .before .before .loop .inv .1 ∙ rest-hit _ _ _ (c .before .before .loop-test .taken) (ap not (marked-miss (c .before .mark-at .ensures) (omega arith))))) (c .before .before .loop-test .taken))
 
 add-i : tie.Need-add-i Inv-loop μ-loop
 add-i c = search needs
@@ -39,11 +38,11 @@ loop-less : tie.Need-loop-less Inv-loop μ-loop
 loop-less c = search needs
 
 loop-again : tie.Need-loop-again Inv-loop μ-loop
-loop-again c = (search needs, refl, c .before .before .before .loop .inv .2 ∙ rest-miss _ _ _ (c .before .before .loop-test .taken) (ap not (marked-hit (c .before .mark-at .ensures) (omega arith))))
+loop-again c = (search needs, c .before .before .before .loop .inv .1 ∙ rest-miss _ _ _ (c .before .before .loop-test .taken) (ap not (marked-hit (c .before .mark-at .ensures) (omega arith))))
 
 returns-2 : tie.Need-returns-2 Inv-loop μ-loop
 unfolding closing size
-returns-2 c = sym (check-miss _ _ _ _ (sym (c .before .loop .inv .2 ∙ rest-end _ _ _ (c .loop-test .left))) (c .loop-test .left))
+returns-2 c = sym (check-miss _ _ _ _ (sym (c .before .loop .inv .1 ∙ rest-end _ _ _ (c .loop-test .left))) (c .loop-test .left))
 
 pub check-used-spec : {M : Type 1} → statement M
 check-used-spec =

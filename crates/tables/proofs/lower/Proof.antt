@@ -1,3 +1,4 @@
+use native.Mathlib.Omega.{arith}
 use borrow.Author.Needs.{needs}
 use Rattle.tables.proofs.Tree3.{lowered-outside, lowered-elder, lowered-higher, lowered-to}
 use Rattle.tables.proofs.lower.Statement.{statement}
@@ -13,7 +14,7 @@ birth-of-requires-2 : tie.Need-birth-of-requires-2
 birth-of-requires-2 c κs = search needs
 
 returns-2 : tie.Need-returns-2
-returns-2 c = lowered-elder (c .before .before .before .before .before .before .args .row .now) (c .before .before .before .before .before .before .args .births .now) (c .before .before .before .before .before .before .args .a) (c .before .before .before .before .before .before .args .b) (c .before .before .birth-of .ensures) (c .before .birth-of2 .ensures) (c .if2 .taken)
+returns-2 c = lowered-elder (c .before .before .before .before .before .before .args .row .now) (c .before .before .before .before .before .before .args .births .now) (c .before .before .before .before .before .before .args .a) (c .before .before .before .before .before .before .args .b) (c .before .before .birth-of .ensures) (c .before .birth-of2 .ensures) (omega (arith, c .if2 .taken))
 
 mul-if3 : tie.Need-mul-if3
 mul-if3 c = search needs
@@ -22,7 +23,7 @@ slice-read-if3 : tie.Need-slice-read-if3
 slice-read-if3 c = search needs
 
 returns-3 : tie.Need-returns-3
-returns-3 c = lowered-higher (c .before .before .before .before .before .before .before .before .args .row .now) (c .before .before .before .before .before .before .before .before .args .births .now) (c .before .before .before .before .before .before .before .before .args .a) (c .before .before .before .before .before .before .before .before .args .b) (c .before .before .before .before .birth-of .ensures) (c .before .before .before .birth-of2 .ensures) (c .before .before .if2 .left) (c .if3 .taken)
+returns-3 c = lowered-higher (c .before .before .before .before .before .before .before .before .args .row .now) (c .before .before .before .before .before .before .before .before .args .births .now) (c .before .before .before .before .before .before .before .before .args .a) (c .before .before .before .before .before .before .before .before .args .b) (c .if3 .taken)
 
 mul-row : tie.Need-mul-row
 mul-row c = search needs
