@@ -61,7 +61,7 @@ pub fn first_not_joined(links: &[u16], ear: &[u16]) -> usize
 }
 
 // The mark at i, and 0 past the end.
-fn mark_at(marks: &[u8], i: usize) -> u8
+pub fn mark_at(marks: &[u8], i: usize) -> u8
     ensures { λ r. ⌜ r ≡ at (now (marks .entry)) i ⌝ }
 {
     if i < marks.len() {
@@ -86,7 +86,7 @@ pub fn first_used(links: &[u16], used: &[u8], ear: &[u16]) -> usize
 }
 
 // The birth of switch v, and 0 past the end.
-fn birth_of(births: &[u16], v: u16) -> u16
+pub fn birth_of(births: &[u16], v: u16) -> u16
     ensures { λ r. ⌜ r ≡ at (now (births .entry)) v ⌝ }
 {
     let i = v as usize;

@@ -48,7 +48,7 @@ position-of-requires-2 : tie.Need-position-of-requires-2
 position-of-requires-2 c κs = search needs
 
 add-open-gap : tie.Need-add-open-gap
-add-open-gap c = search needs
+add-open-gap c = let a = c .before .before .before .before .before .before .before .before .before .before .before .args in omega (arith, c .before .before .before .before .before .before .before .before .before .before .before .pre, position-within (a .order .now) (a .count) _ (c .before .before .before .before .before .position-of .ensures))
 
 sub-open-gap : tie.Need-sub-open-gap
 sub-open-gap c = search needs

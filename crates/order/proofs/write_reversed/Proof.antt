@@ -10,13 +10,13 @@ use Rattle.order.proofs.write_reversed.Statement.{statement}
 use Rattle.order.proofs.write_reversed.Tie as tie
 
 abbrev Inv-loop : tie.InvT-loop
-Inv-loop order₀ at part len k₀ order k = (k ≤ len) × (len ≡ length part) × (length order ≡ length order₀) × (order ≡ paste order₀ at (reverse part) k)
+Inv-loop order₀ at part len k₀ order k = (k ≤ len) × (length order ≡ length order₀) × (order ≡ paste order₀ at (reverse part) k)
 
 abbrev μ-loop : tie.MeasureT-loop
 μ-loop order₀ at part len k₀ order k = len - k
 
 loop-holds : tie.Need-loop-holds Inv-loop μ-loop
-loop-holds c = (search needs, refl, refl, paste-zero _ (c .args .at) (reverse (c .args .part .now)))
+loop-holds c = (search needs, refl, paste-zero _ (c .args .at) (reverse (c .args .part .now)))
 
 sub-order : tie.Need-sub-order Inv-loop μ-loop
 sub-order c = search needs
@@ -46,13 +46,13 @@ loop-less : tie.Need-loop-less Inv-loop μ-loop
 loop-less c = search needs
 
 loop-again : tie.Need-loop-again Inv-loop μ-loop
-loop-again c = let l = c .before .before .before .args .part .now in (search needs, refl, simp length-set (c .before .before .loop .inv .2), ap (λ (t : List ℕ). set t (c .before .before .before .args .at + c .before .before .loop .k) (getD l (length l - 1 - c .before .before .loop .k) 0)) (c .before .before .loop .inv .3) ∙ paste-more (c .before .before .before .args .order .now) (c .before .before .before .args .at) (reverse l) (c .before .before .loop .k) _ (reversed-at l _ (c .before .loop-test .taken)) (omega (arith, c .before .before .before .pre, length-reverse l)) (omega (arith, length-reverse l)))
+loop-again c = let l = c .before .before .before .args .part .now in (search needs, simp length-set (c .before .before .loop .inv .1), ap (λ (t : List ℕ). set t (c .before .before .before .args .at + c .before .before .loop .k) (getD l (length l - 1 - c .before .before .loop .k) 0)) (c .before .before .loop .inv .2) ∙ paste-more (c .before .before .before .args .order .now) (c .before .before .before .args .at) (reverse l) (c .before .before .loop .k) _ (reversed-at l _ (c .before .loop-test .taken)) (omega (arith, c .before .before .before .pre, length-reverse l)) (omega (arith, length-reverse l)))
 
 same-length : tie.Need-same-length Inv-loop μ-loop
-same-length c = c .before .loop .inv .2
+same-length c = c .before .loop .inv .1
 
 returns : tie.Need-returns Inv-loop μ-loop
-returns c = c .before .loop .inv .3 ∙ paste-all (c .before .before .args .order .now) (c .before .before .args .at) (reverse (c .before .before .args .part .now)) (c .before .loop .k) _ (length-reverse (c .before .before .args .part .now)) (omega arith)
+returns c = c .before .loop .inv .2 ∙ paste-all (c .before .before .args .order .now) (c .before .before .args .at) (reverse (c .before .before .args .part .now)) (c .before .loop .k) _ (length-reverse (c .before .before .args .part .now)) (omega arith)
 
 pub write-reversed-spec : {M : Type 1} → statement M
 write-reversed-spec =
