@@ -8,12 +8,12 @@ ghost use mathlib.Core.List.{[]};
 ghost use Prim.Native.Nat.{_*_, _≤_, min};
 ghost use lib.Dec.{eqb};
 ghost use lib.ListN.{length};
-ghost use Rattle.mondschein.specs.Judge.{refused, wrongSize, loading, verdict};
+ghost use Rattle.mondschein.specs.Judge.{refused, wrongSize, loading, verdict, closing};
 ghost use Rattle.mondschein.specs.Machine.{settle};
 ghost use Rattle.network.specs.Load.{networkOf};
 ghost use Rattle.judge.specs.Ear.{marked};
-ghost use Rattle.tables.specs.Tables.{afterEar};
-ghost use Rattle.session.specs.Session.{emptySession, padded, openedWith, networkIn, tablesIn, withTables, loadedBy, offeredBy, clearedBy, loadOutcome, earOutcome, clearOutcome};
+ghost use Rattle.tables.specs.Tables.{afterEar, tree3Of};
+ghost use Rattle.session.specs.Session.{emptySession, padded, openedWith, networkIn, tablesIn, withTables, closedWith, loadedBy, offeredBy, closedBy, clearedBy, loadOutcome, earOutcome, closeOutcome, clearOutcome};
 
 pub enum Stage {
     Empty,
@@ -293,5 +293,73 @@ pub fn ear(s: Session, ear: &[u16]) -> Offering
         Stage::Empty => ear_refused(19, 0, s),
         Stage::Open => ear_open(s, ear),
         Stage::Closed => ear_refused(22, 0, s),
+    }
+}
+
+fn close_refused(number: u8, place: u16, s: Session) -> Closing
+    ensures { λ r. ⌜ closeOutcome r ≡ record { answer = refused number place; after = s } ⌝ }
+{
+    let answer = Close::Refused(number, place);
+    Closing { answer, session: s }
+}
+
+// The session closed, with tree 3.
+fn closed(s: Session) -> Session
+    ensures { λ r. ⌜ r ≡ closedWith s (tree3Of (networkIn s) (s .births) (s .tree3)) ⌝ }
+{
+    let links = s.links;
+    let used = s.used;
+    let births = s.births;
+    let order = s.order;
+    let tree1 = s.tree1;
+    let tree2 = s.tree2;
+    let mut tree3 = s.tree3;
+    let numbers = table_length(s.m);
+    tables::set_tree3(&mut tree3, s.n, &links[..numbers], s.root, s.last, &births);
+    Session {
+        stage: Stage::Closed,
+        n: s.n,
+        m: s.m,
+        root: s.root,
+        first: s.first,
+        last: s.last,
+        links,
+        used,
+        longs: s.longs,
+        births,
+        born: s.born,
+        order,
+        tree1,
+        tree2,
+        tree3,
+    }
+}
+
+// Check 23, and the session closed where it is clear.
+fn close_open(s: Session) -> Closing
+    ensures { λ r. ⌜ closeOutcome r ≡ settle s (closedWith s (tree3Of (networkIn s) (s .births) (s .tree3))) (closing (networkIn s) (marked (s .used))) ⌝ }
+{
+    let links = s.links;
+    let used = s.used;
+    let numbers = table_length(s.m);
+    let answer = tables::check_used(&links[..numbers], &used);
+    match answer {
+        Close::Refused(number, place) => close_refused(number, place, s),
+        Close::Closed => {
+            let session = closed(s);
+            Closing { answer, session }
+        }
+    }
+}
+
+// Closes an open session: 19 on an empty one, 22 on a closed one, then check 23.
+pub fn close(s: Session) -> Closing
+    ensures { λ r. ⌜ closeOutcome r ≡ closedBy s ⌝ }
+{
+    let stage = s.stage;
+    match stage {
+        Stage::Empty => close_refused(19, 0, s),
+        Stage::Open => close_open(s),
+        Stage::Closed => close_refused(22, 0, s),
     }
 }

@@ -1,13 +1,12 @@
 use Prim.Native.Nat.{ℕ, _≤_, _*_}
-use mathlib.Core.Path.{_≡_, ap, _∙_}
+use mathlib.Core.Path.{ap, _∙_}
 use mathlib.Core.List.{List}
 use native.Mathlib.Omega.{arith}
 use lib.ListN.{length, take}
 use Rattle.network.specs.Load.{tableOf}
 use Rattle.tables.specs.Tables.{afterEar}
 use Rattle.session.specs.Session.{tablesIn, withTables}
-use Rattle.session.proofs.Answers.{array-length, table-take, after-table}
-use lib.ListN.{length-take}
+use Rattle.session.proofs.Answers.{array-length, table-bound, table-whole, table-take, after-table}
 use borrow.Author.Needs.{needs}
 use Rattle.session.proofs.accepted.Statement.{statement}
 use Rattle.session.proofs.accepted.Tie as tie
@@ -16,10 +15,10 @@ table-length-requires : tie.Need-table-length-requires
 table-length-requires c κs = search needs
 
 array-share-prefix-links : tie.Need-array-share-prefix-links
-array-share-prefix-links c = let y : c .table-length .result ≤ length (c .before .before .before .before .before .before .before .before .before .args .s .links) = omega (arith, array-length (c .before .before .before .before .before .before .before .before .before .args .s .links) 8192 (c .before .before .before .before .before .before .before .before .before .good .0 .1 .1 .1 .1 .1 .1 .1 .1 .0 .1 .0 .1), c .table-length .ensures) in y
+array-share-prefix-links c = let s = c .before .before .before .before .before .before .before .before .before .args .s in table-bound (s .m) (s .links) (array-length (c .before .before .before .before .before .before .before .before .before .args .s .links) 8192 (c .before .before .before .before .before .before .before .before .before .good .0 .1 .1 .1 .1 .1 .1 .1 .1 .0 .1 .0 .1)) (c .table-length .ensures)
 
 slice-aggregate-accept : tie.Need-slice-aggregate-accept
-slice-aggregate-accept c = let y : c .before .table-length .result ≡ length (take (c .before .table-length .result) (c .before .before .before .before .before .before .before .before .before .before .args .s .links)) = omega (arith, array-length (c .before .before .before .before .before .before .before .before .before .before .args .s .links) 8192 (c .before .before .before .before .before .before .before .before .before .before .good .0 .1 .1 .1 .1 .1 .1 .1 .1 .0 .1 .0 .1), c .before .table-length .ensures, length-take (c .before .table-length .result) (c .before .before .before .before .before .before .before .before .before .before .args .s .links)) in y
+slice-aggregate-accept c = let s = c .before .before .before .before .before .before .before .before .before .before .args .s in table-whole (s .m) (s .links) (array-length (c .before .before .before .before .before .before .before .before .before .before .args .s .links) 8192 (c .before .before .before .before .before .before .before .before .before .before .good .0 .1 .1 .1 .1 .1 .1 .1 .1 .0 .1 .0 .1)) (c .before .table-length .ensures)
 
 slice-aggregate-accept-2 : tie.Need-slice-aggregate-accept-2
 slice-aggregate-accept-2 c = search needs

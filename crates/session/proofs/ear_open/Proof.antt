@@ -1,14 +1,11 @@
-use Prim.Native.Nat.{ℕ, _≤_}
-use mathlib.Core.Path.{_≡_, sym, ap, _∙_}
+use Prim.Native.Nat.{ℕ}
+use mathlib.Core.Path.{sym, ap, _∙_}
 use mathlib.Core.List.{List}
-use native.Mathlib.Omega.{arith}
-use lib.ListN.{length, take}
 use lib.Dec.{eqb}
 use Rattle.mondschein.specs.Judge.{verdict}
 use Rattle.network.specs.Load.{networkOf}
 use Rattle.judge.specs.Ear.{marked, earAnswer}
-use Rattle.session.proofs.Answers.{array-length, table-take, accepted-two, after-refused, after-given}
-use lib.ListN.{length-take}
+use Rattle.session.proofs.Answers.{array-length, table-bound, table-whole, table-take, accepted-two, after-refused, after-given}
 use borrow.Author.Needs.{needs}
 use Rattle.session.proofs.ear_open.Statement.{statement}
 use Rattle.session.proofs.ear_open.Tie as tie
@@ -17,10 +14,10 @@ table-length-requires : tie.Need-table-length-requires
 table-length-requires c κs = search needs
 
 array-share-prefix-links : tie.Need-array-share-prefix-links
-array-share-prefix-links c = let y : c .table-length .result ≤ length (c .before .before .before .before .before .args .s .links) = omega (arith, array-length (c .before .before .before .before .before .args .s .links) 8192 (c .before .before .before .before .before .good .0 .1 .1 .1 .1 .1 .1 .1 .1 .0 .1 .0 .1), c .table-length .ensures) in y
+array-share-prefix-links c = let s = c .before .before .before .before .before .args .s in table-bound (s .m) (s .links) (array-length (c .before .before .before .before .before .args .s .links) 8192 (c .before .before .before .before .before .good .0 .1 .1 .1 .1 .1 .1 .1 .1 .0 .1 .0 .1)) (c .table-length .ensures)
 
 slice-aggregate-judge : tie.Need-slice-aggregate-judge
-slice-aggregate-judge c = let y : c .before .table-length .result ≡ length (take (c .before .table-length .result) (c .before .before .before .before .before .before .args .s .links)) = omega (arith, array-length (c .before .before .before .before .before .before .args .s .links) 8192 (c .before .before .before .before .before .before .good .0 .1 .1 .1 .1 .1 .1 .1 .1 .0 .1 .0 .1), c .before .table-length .ensures, length-take (c .before .table-length .result) (c .before .before .before .before .before .before .args .s .links)) in y
+slice-aggregate-judge c = let s = c .before .before .before .before .before .before .args .s in table-whole (s .m) (s .links) (array-length (c .before .before .before .before .before .before .args .s .links) 8192 (c .before .before .before .before .before .before .good .0 .1 .1 .1 .1 .1 .1 .1 .1 .0 .1 .0 .1)) (c .before .table-length .ensures)
 
 slice-aggregate-judge-2 : tie.Need-slice-aggregate-judge-2
 slice-aggregate-judge-2 c = search needs
