@@ -1,5 +1,6 @@
-use mathlib.Core.Path.{_∙_}
-use Rattle.session.proofs.Loads.{load-on-empty, load-on-open, load-on-closed}
+use mathlib.Core.Path.{refl, _∙_}
+use Rattle.session.specs.Session.{loadedBy}
+use Rattle.session.proofs.Answers.{after-refused, on-empty, on-open, on-closed}
 use borrow.Author.Needs.{needs}
 use Rattle.session.proofs.load.Statement.{statement}
 use Rattle.session.proofs.load.Tie as tie
@@ -23,13 +24,16 @@ load-refused-requires-2 : tie.Need-load-refused-requires-2
 load-refused-requires-2 c κs = search needs
 
 returns : tie.Need-returns
-returns c = c .load-empty .ensures ∙ load-on-empty (c .before .before .before .before .args .s) _ (c .before .enum-told .given .1)
+unfolding loadedBy
+returns c = on-empty (c .before .before .before .before .args .s) _ _ _ _ (c .before .enum-told .given .1) (c .load-empty .ensures)
 
 returns-2 : tie.Need-returns-2
-returns-2 c = c .load-refused .ensures ∙ load-on-open (c .before .before .before .before .args .s) _ (c .before .enum-told2 .given .1)
+unfolding loadedBy
+returns-2 c = on-open (c .before .before .before .before .args .s) _ _ _ _ (c .before .enum-told2 .given .1) (c .load-refused .ensures ∙ after-refused (c .before .before .before .before .args .s) _ refl)
 
 returns-3 : tie.Need-returns-3
-returns-3 c = c .load-refused2 .ensures ∙ load-on-closed (c .before .before .before .before .args .s) _ (c .before .enum-told3 .given .1)
+unfolding loadedBy
+returns-3 c = on-closed (c .before .before .before .before .args .s) _ _ _ _ (c .before .enum-told3 .given .1) (c .load-refused2 .ensures ∙ after-refused (c .before .before .before .before .args .s) _ refl)
 
 pub load-spec : {M : Type 1} → statement M
 load-spec =
