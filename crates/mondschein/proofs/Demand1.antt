@@ -2,13 +2,13 @@
 -- Each check is held to the numbers and places of its call.
 use mathlib.Core.Path.{_≡_, refl, ap, _∙_}
 use mathlib.Core.Logic.{_⊎_, inl, inr, ⊎-elim}
-use mathlib.Core.Bool.{cond}
+use mathlib.Core.Bool.{Bool, cond}
 use mathlib.Core.List.{List, [], _∷_}
 use Prim.Native.Nat.{ℕ, _<_}
 use native.Mathlib.Omega.{arith}
 use lib.ListN.{drop}
 use lib.Seq.{drop-at}
-use Rattle.mondschein.specs.Network.{Network, In, Ears, used}
+use Rattle.mondschein.specs.Network.{Network, In}
 use Rattle.mondschein.specs.Judge.{Answer, given, refused, loading, verdict, judge, closing}
 use Rattle.mondschein.specs.Order.{walkOf}
 use Rattle.mondschein.specs.Machine.{State, empty, opened, closed, Call, load, ear, close, clear, granted, Outcome, settle, step, parentCall, walkCall, machine}
@@ -16,10 +16,10 @@ use Rattle.mondschein.specs.Demands.{Refusal, Demand1}
 use Rattle.mondschein.proofs.Checks.{check-either}
 
 -- an answer of the call c
-abbrev Fair : Call → Answer → Type 0
+abbrev pub Fair : Call → Answer → Type 0
 Fair c a = ((vs : List ℕ) × (a ≡ given vs)) ⊎ ((num place : ℕ) × (a ≡ refused num place) × Refusal c num place)
 
-load-fair : (net : Network) → Fair (load net) (loading net)
+pub load-fair : (net : Network) → Fair (load net) (loading net)
 unfolding loading
 load-fair net =
     check-either Q 1 _ _ _ (λ k l. inr (1, k, refl, inl ((0, omega arith, refl), omega arith)))
@@ -33,9 +33,9 @@ load-fair net =
     Q : Answer → Type 0
     Q = Fair (load net)
 
-ear-fair : (net : Network) (es : Ears) (e : List ℕ) → Fair (ear e) (judge net es e)
-unfolding judge verdict
-ear-fair net es e =
+pub ear-fair : (net : Network) (isBorn isUsed : ℕ → Bool) (isFirst : Bool) (e : List ℕ) → Fair (ear e) (verdict net isBorn isUsed isFirst e)
+unfolding verdict
+ear-fair net isBorn isUsed isFirst e =
     check-either Q 7 _ _ _ (λ k l. inr (7, k, refl, inl ((0, omega arith, refl), omega arith)))
     (check-either Q 8 _ _ _ (λ k l. inr (8, k, refl, inr ((0, omega arith, refl), l)))
     (check-either Q 9 _ _ _ (λ k l. inr (9, k, refl, inr ((1, omega arith, refl), l)))
@@ -51,29 +51,45 @@ ear-fair net es e =
     Q : Answer → Type 0
     Q = Fair (ear e)
 
-close-fair : (net : Network) (es : Ears) → Fair close (closing net (used net es))
+pub close-fair : (net : Network) (isUsed : ℕ → Bool) → Fair close (closing net isUsed)
 unfolding closing
-close-fair net es = check-either (Fair close) 23 _ _ _ (λ k l. inr (23, k, refl, inr refl)) (inl ([], refl))
+close-fair net isUsed = check-either (Fair close) 23 _ _ _ (λ k l. inr (23, k, refl, inr refl)) (inl ([], refl))
 
--- a refusal leaves the state
-abbrev Kept : Call → State → Outcome State → Type 0
+-- the refusals from the state
+pub load-fair-20 : (net : Network) → Fair (load net) (refused 20 0)
+load-fair-20 net = inr (20, 0, refl, inl ((3, omega arith, refl), refl))
+
+pub ear-fair-19 : (e : List ℕ) → Fair (ear e) (refused 19 0)
+ear-fair-19 e = inr (19, 0, refl, inl ((2, omega arith, refl), refl))
+
+pub ear-fair-22 : (e : List ℕ) → Fair (ear e) (refused 22 0)
+ear-fair-22 e = inr (22, 0, refl, inl ((3, omega arith, refl), refl))
+
+pub close-fair-19 : Fair close (refused 19 0)
+close-fair-19 = inr (19, 0, refl, inl ((0, omega arith, refl), refl))
+
+pub close-fair-22 : Fair close (refused 22 0)
+close-fair-22 = inr (22, 0, refl, inl ((1, omega arith, refl), refl))
+
+-- a refusal leaves the session
+abbrev pub Kept : {A : Type 0} → Call → A → Outcome A → Type 0
 Kept c s o = ((vs : List ℕ) × (o .answer ≡ given vs)) ⊎ ((num place : ℕ) × (o .answer ≡ refused num place) × Refusal c num place × (o .after ≡ s))
 
-kept : (c : Call) (old next : State) (a : Answer) → Fair c a → Kept c old (settle old next a)
+pub kept : {A : Type 0} (c : Call) (old next : A) (a : Answer) → Fair c a → Kept c old (settle old next a)
 unfolding settle granted
 kept c old next a f = ⊎-elim inl (λ (num, place, e, r). inr (num, place, e, r, ap (λ (b : Answer). cond (granted b) next old) e)) f
 
 calls : (s : State) (c : Call) → Kept c s (step s c)
-unfolding step
+unfolding step judge
 calls empty (load net) = kept (load net) _ _ _ (load-fair net)
-calls (opened net es) (load net′) = kept (load net′) _ _ _ (inr (20, 0, refl, inl ((3, omega arith, refl), refl)))
-calls (closed net es) (load net′) = kept (load net′) _ _ _ (inr (20, 0, refl, inl ((3, omega arith, refl), refl)))
-calls empty (ear e) = kept (ear e) _ _ _ (inr (19, 0, refl, inl ((2, omega arith, refl), refl)))
-calls (opened net es) (ear e) = kept (ear e) _ _ _ (ear-fair net es e)
-calls (closed net es) (ear e) = kept (ear e) _ _ _ (inr (22, 0, refl, inl ((3, omega arith, refl), refl)))
-calls empty close = kept close _ _ _ (inr (19, 0, refl, inl ((0, omega arith, refl), refl)))
-calls (opened net es) close = kept close _ _ _ (close-fair net es)
-calls (closed net es) close = kept close _ _ _ (inr (22, 0, refl, inl ((1, omega arith, refl), refl)))
+calls (opened net es) (load net′) = kept (load net′) _ _ _ (load-fair-20 net′)
+calls (closed net es) (load net′) = kept (load net′) _ _ _ (load-fair-20 net′)
+calls empty (ear e) = kept (ear e) _ _ _ (ear-fair-19 e)
+calls (opened net es) (ear e) = kept (ear e) _ _ _ (ear-fair net _ _ _ e)
+calls (closed net es) (ear e) = kept (ear e) _ _ _ (ear-fair-22 e)
+calls empty close = kept close _ _ _ close-fair-19
+calls (opened net es) close = kept close _ _ _ (close-fair net _)
+calls (closed net es) close = kept close _ _ _ close-fair-22
 calls empty clear = kept clear _ _ _ (inl ([], refl))
 calls (opened net es) clear = kept clear _ _ _ (inl ([], refl))
 calls (closed net es) clear = kept clear _ _ _ (inl ([], refl))
