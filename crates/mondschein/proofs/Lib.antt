@@ -11,6 +11,7 @@ pub mod Loading
 pub mod Order
 pub mod Growth
 pub mod Inner
+pub mod Next
 pub mod Routes
 pub mod Trees
 pub mod Sound
