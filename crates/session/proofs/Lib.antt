@@ -1,2 +1,6 @@
 pub mod Loads
 pub mod Refuses
+pub mod HeldLoad
+pub mod HeldEar
+pub mod HeldClose
+pub mod Refines
