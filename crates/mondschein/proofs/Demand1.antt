@@ -3,15 +3,15 @@
 use mathlib.Core.Path.{_≡_, refl, ap, _∙_}
 use mathlib.Core.Logic.{_⊎_, inl, inr, ⊎-elim}
 use mathlib.Core.Bool.{Bool, cond}
-use mathlib.Core.List.{List, [], _∷_}
+use mathlib.Core.List.{List, [], _∷_, _++_}
 use Prim.Native.Nat.{ℕ, _<_}
 use native.Mathlib.Omega.{arith}
-use lib.ListN.{drop}
+use lib.ListN.{length, drop}
 use lib.Seq.{drop-at}
 use Rattle.mondschein.specs.Network.{Network, In}
-use Rattle.mondschein.specs.Judge.{Answer, given, refused, loading, verdict, judge, closing}
+use Rattle.mondschein.specs.Judge.{Answer, given, refused, check, loading, verdict, judge, closing}
 use Rattle.mondschein.specs.Order.{walkOf}
-use Rattle.mondschein.specs.Machine.{State, empty, opened, closed, Call, load, ear, close, clear, granted, Outcome, settle, step, parentCall, walkCall, machine}
+use Rattle.mondschein.specs.Machine.{State, empty, opened, closed, Call, load, ear, close, clear, granted, Outcome, settle, step, unknown, parentCall, walkCall, machine}
 use Rattle.mondschein.specs.Demands.{Refusal, Demand1}
 use Rattle.mondschein.proofs.Checks.{check-either}
 
@@ -95,25 +95,48 @@ calls (opened net es) clear = kept clear _ _ _ (inl ([], refl))
 calls (closed net es) clear = kept clear _ _ _ (inl ([], refl))
 
 -- an answer of the value x, or a refusal with one of the numbers
-abbrev One : List ℕ → ℕ → Answer → Type 0
+abbrev pub One : List ℕ → ℕ → Answer → Type 0
 One nums x a = (a ≡ given (x ∷ [])) ⊎ ((num : ℕ) × (a ≡ refused num 0) × In nums num)
 
 refused-at : (nums : List ℕ) (x num k : ℕ) → k < 1 → In nums num → One nums x (refused num k)
 refused-at nums x num k l i = inr (num, ap (refused num) (let z : k ≡ 0 = omega arith in z), i)
 
-abbrev parentNumbers : List ℕ
+abbrev pub parentNumbers : List ℕ
 parentNumbers = 17 ∷ 19 ∷ 21 ∷ []
 
-abbrev walkNumbers : List ℕ
+abbrev pub walkNumbers : List ℕ
 walkNumbers = 17 ∷ 18 ∷ 19 ∷ 21 ∷ []
+
+-- parent, of any test and any entry
+pub parent-fair : (x : ℕ) (bad : ℕ → Bool) → One parentNumbers x (check 17 1 bad (given (x ∷ [])))
+parent-fair x bad = check-either (One parentNumbers x) 17 1 bad _ (λ k l. refused-at parentNumbers x 17 k l (0, omega arith, refl)) (inl refl)
+
+pub parent-fair-19 : (x : ℕ) → One parentNumbers x (refused 19 0)
+parent-fair-19 x = inr (19, refl, (1, omega arith, refl))
+
+pub parent-fair-21 : (x : ℕ) → One parentNumbers x (refused 21 0)
+parent-fair-21 x = inr (21, refl, (2, omega arith, refl))
+
+pub told-entry : (x : ℕ) {a : Answer} → One parentNumbers x a → ((y : ℕ) × (a ≡ given (y ∷ []))) ⊎ ((num : ℕ) × (a ≡ refused num 0) × In parentNumbers num)
+told-entry x f = ⊎-elim (λ e. inl (x, e)) inr f
 
 parents : (s : State) (v t : ℕ) → ((x : ℕ) × (parentCall s v t ≡ given (x ∷ []))) ⊎ ((num : ℕ) × (parentCall s v t ≡ refused num 0) × In parentNumbers num)
 unfolding parentCall
-parents empty v t = inr (19, refl, (1, omega arith, refl))
-parents (opened net es) v t = inr (21, refl, (2, omega arith, refl))
-parents (closed net es) v t =
-    ⊎-elim (λ e. inl (_, e)) inr
-    (check-either (One parentNumbers _) 17 _ _ _ (λ k l. refused-at parentNumbers _ 17 k l (0, omega arith, refl)) (inl refl))
+parents empty v t = told-entry 0 (parent-fair-19 0)
+parents (opened net es) v t = told-entry 0 (parent-fair-21 0)
+parents (closed net es) v t = told-entry _ (parent-fair _ (unknown net v t))
+
+-- walk, of any tests and any count
+pub walk-fair : (c : ℕ) (bad short : ℕ → Bool) → One walkNumbers c (check 17 1 bad (check 18 1 short (given (c ∷ []))))
+walk-fair c bad short =
+    check-either (One walkNumbers c) 17 1 bad _ (λ k l. refused-at walkNumbers c 17 k l (0, omega arith, refl))
+    (check-either (One walkNumbers c) 18 1 short _ (λ k l. refused-at walkNumbers c 18 k l (1, omega arith, refl)) (inl refl))
+
+pub walk-fair-19 : (c : ℕ) → One walkNumbers c (refused 19 0)
+walk-fair-19 c = inr (19, refl, (2, omega arith, refl))
+
+pub walk-fair-21 : (c : ℕ) → One walkNumbers c (refused 21 0)
+walk-fair-21 c = inr (21, refl, (3, omega arith, refl))
 
 -- what a walk call leaves: past its count all, after a refusal the slice
 abbrev Left : List ℕ → Outcome (List ℕ) → Type 0
@@ -127,14 +150,14 @@ left out next c a q =
     (λ e. inl (c, e, ap (λ (b : Answer). drop c (settle out next b .after)) e ∙ q))
     (λ (num, e, i). inr (num, ap (settle out next) e, i))
 
+pub walk-left : (out w : List ℕ) (a : Answer) → One walkNumbers (length w) a → Left out (settle out (w ++ drop (length w) out) a)
+walk-left out w a f = left out _ (length w) a (drop-at w _ _ refl) f
+
 walks : (s : State) (v t : ℕ) (out : List ℕ) → Left out (walkCall s v t out)
 unfolding walkCall
-walks empty v t out = left out out 0 (refused 19 0) refl (inr (19, refl, (2, omega arith, refl)))
-walks (opened net es) v t out = left out out 0 (refused 21 0) refl (inr (21, refl, (3, omega arith, refl)))
-walks (closed net es) v t out =
-    left out _ _ _ (drop-at (walkOf net es t v) _ _ refl)
-    (check-either (One walkNumbers _) 17 _ _ _ (λ k l. refused-at walkNumbers _ 17 k l (0, omega arith, refl))
-    (check-either (One walkNumbers _) 18 _ _ _ (λ k l. refused-at walkNumbers _ 18 k l (1, omega arith, refl)) (inl refl)))
+walks empty v t out = left out out 0 (refused 19 0) refl (walk-fair-19 0)
+walks (opened net es) v t out = left out out 0 (refused 21 0) refl (walk-fair-21 0)
+walks (closed net es) v t out = walk-left out (walkOf net es t v) _ (walk-fair _ _ _)
 
 pub demand1 : Demand1 machine
 demand1 = record { calls = calls; parents = parents; walks = walks }

@@ -17,7 +17,7 @@ use Rattle.mondschein.proofs.Loading.{loading-given}
 use Rattle.mondschein.proofs.Counts.{judge-passed, judged}
 
 -- one call does to the state what its answer tells
-step-told : (s : State) (c : Call) → step s c .after ≡ cond (granted (step s c .answer)) (told s c) s
+pub step-told : (s : State) (c : Call) → step s c .after ≡ cond (granted (step s c .answer)) (told s c) s
 unfolding step settle told granted
 step-told empty (load net) = refl
 step-told (opened net es) (load net′) = refl

@@ -23,3 +23,4 @@ pub mod Demand1
 pub mod Demand2
 pub mod Demand3
 pub mod EitherEnd
+pub mod Implementation
