@@ -4,3 +4,5 @@ pub mod HeldLoad
 pub mod HeldEar
 pub mod HeldClose
 pub mod Refines
+pub mod Demand1
+pub mod Implements

@@ -36,15 +36,15 @@ module _ (s s′ : Session) (st st′ : State) (h : HoldsState s st) where
 
 -- the answer of a stage
 module _ (a b c : Answer) {t : Stage} where
-  on-empty : t ≡ Empty → byStage t a b c ≡ a
+  pub on-empty : t ≡ Empty → byStage t a b c ≡ a
   unfolding byStage
   on-empty q = ap (λ (z : Stage). byStage z a b c) q
 
-  on-open : t ≡ Open → byStage t a b c ≡ b
+  pub on-open : t ≡ Open → byStage t a b c ≡ b
   unfolding byStage
   on-open q = ap (λ (z : Stage). byStage z a b c) q
 
-  on-closed : t ≡ Closed → byStage t a b c ≡ c
+  pub on-closed : t ≡ Closed → byStage t a b c ≡ c
   unfolding byStage
   on-closed q = ap (λ (z : Stage). byStage z a b c) q
 
