@@ -2,20 +2,20 @@
 -- does, and that a list is accepted exactly when each of its ears passes.
 use mathlib.Core.Path.{_≡_, refl, sym, ap, ap₂, _∙_, subst}
 use mathlib.Core.Logic.{⊎-elim}
-use mathlib.Core.Bool.{Bool, true, false, _||_}
+use mathlib.Core.Bool.{Bool, true, false, not, _&&_, _||_, cond}
 use mathlib.Core.List.{List, [], _∷_, _++_}
 use Prim.Native.Nat.{ℕ, zero, suc, pred, _≤_, _<_}
 use native.Mathlib.Omega.{arith}
 use native.Mathlib.Numerals.{add-one}
 use lib.Dec.{eqb}
 use lib.ListN.{length, take, length-take, length-append, List·getD-append}
-use lib.Seq.{getD-take, getD-at, length-take-le, take-append-le, take-at}
+use lib.Seq.{getD-take, getD-at, length-take-le, take-all, take-append-le, take-at}
 use borrow.Author.Tests.{ne-eqb}
-use Rattle.mondschein.specs.Network.{any, Network, at, holds, passes, Ears, earAt, born, birth, trail, used, isNew}
+use Rattle.mondschein.specs.Network.{any, count, Network, at, holds, passes, Ears, earAt, born, birth, trail, used, isNew, longEars, longBirth}
 use Rattle.mondschein.specs.Judge.{given, verdict, judge, Accepted}
 use Rattle.mondschein.specs.Mondschein.{Birth}
 use Rattle.mondschein.proofs.Logic.{which, clash, less?}
-use Rattle.mondschein.proofs.Search.{IsLow, low-is, low-eq, low-none, any-true, any-false, true-any, any-suc, any-ext}
+use Rattle.mondschein.proofs.Search.{IsLow, low-is, low-eq, low-none, any-true, any-false, true-any, any-suc, any-ext, count-ext}
 use Rattle.mondschein.proofs.Lists.{at-same, holds-in, in-holds}
 use Rattle.mondschein.proofs.Checks.{end-new, Passed, given-passed}
 
@@ -134,6 +134,33 @@ module _ (es : Ears) (e : List ℕ) where
         before = λ j m. ap (λ (d : List ℕ). holds d x) (old-ear j m) ∙ unborn-at es x u j m;
         hit = λ _. ap (λ (d : List ℕ). holds d x) new-ear ∙ h;
       }
+
+  -- long ears, and births by long ear
+  pub long-snoc : longEars more ≡ cond (eqb (length e) 2) (longEars es) (suc (longEars es))
+  unfolding longEars count
+  long-snoc =
+      ap (count (λ i. not (eqb (length (earAt more i)) 2))) more-length
+      ∙ ap₂ (λ (b : Bool) (k : ℕ). cond b (suc k) k)
+      (ap (λ (d : List ℕ). not (eqb (length d) 2)) new-ear)
+      (count-ext _ _ (length es) (λ i l. ap (λ (d : List ℕ). not (eqb (length d) 2)) (old-ear i l)))
+      ∙ turn (eqb (length e) 2)
+    where
+      turn : (b : Bool) → cond (not b) (suc (longEars es)) (longEars es) ≡ cond b (longEars es) (suc (longEars es))
+      turn true = refl
+      turn false = refl
+
+  pub long-birth-snoc : (x : ℕ) → longBirth more x ≡ cond (holds e x && not (born es x)) (longEars more) (longBirth es x)
+  unfolding longBirth
+  long-birth-snoc x = rw (born-snoc es e x) (go (born es x) (holds e x) refl refl)
+    where
+      old : born es x ≡ true → longEars (take (suc (birth more x)) more) ≡ longEars (take (suc (birth es x)) es)
+      old q = rw (birth-old x q) (ap longEars (take-append-le (suc (birth es x)) es (e ∷ []) (birth-lt es x q)))
+
+      go : (b h : Bool) → born es x ≡ b → holds e x ≡ h → cond (b || h) (longEars (take (suc (birth more x)) more)) 0 ≡ cond (h && not b) (longEars more) (cond b (longEars (take (suc (birth es x)) es)) 0)
+      go true true q r = old q
+      go true false q r = old q
+      go false true q r = rw (birth-new x q r) (ap longEars (take-all (suc (length es)) more (omega (arith, more-length))))
+      go false false q r = refl
 
 -- each ear of the list passes every check, where those before it are born and used
 abbrev pub Passing : Network → Ears → Type 0

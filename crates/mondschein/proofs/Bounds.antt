@@ -121,7 +121,7 @@ module _ (net : Network) (es : Ears) (acc : Passing net es) where
     λ l. omega (arith, long-birth x h, long-birth y k, count-hit isLong (birth es x) (birth-long x h), count-more isLong (suc (birth es x)) (birth es y) l),
   )
 
-  bounded : Bounded net es
+  pub bounded : Bounded net es
   bounded = record { switches = order-bound; longs = long-bound; ears = ears-bound; unborn = long-birth-born; births = long-birth-less }
 
 pub ordered : Ordered

@@ -1,33 +1,30 @@
 -- A later ear may be written from either end: it is accepted alike, with the same count, and two lists that differ in such a writing
 -- have the same births, used links, order and tables, now and after any further calls.
 use mathlib.Core.Path.{_≡_, refl, sym, ap, ap₂, _∙_, subst}
-use mathlib.Core.Logic.{⊎-elim, _≢_}
+use mathlib.Core.Logic.{⊎-elim}
 use mathlib.Core.Bool.{Bool, true, false, not, _&&_, _||_, cond}
 use mathlib.Core.List.{List, [], _∷_, _++_, reverse, foldl, foldl-append}
 use Prim.Native.Nat.{ℕ, suc, pred, _-_, _<_}
 use native.Mathlib.Omega.{arith}
 use lib.Dec.{eqb, ltb}
-use lib.ListN.{length, drop, length-append}
+use lib.ListN.{length, length-append}
 use lib.ListN as L
 use borrow.Author.Tests.{ne-eqb}
 use Rattle.mondschein.specs.Network.{Network, at, holds, size, joined, passes, Proper, Ears, born, birth, trail, used, isNew, newSwitches}
-use Rattle.mondschein.specs.Judge.{Answer, given, check, verdict, judge, closing}
-use Rattle.mondschein.specs.Order.{position, fromA, between, extend, order, parent1, parent2, parent3By, parentOf, walkOf}
-use Rattle.mondschein.specs.Machine.{State, empty, opened, closed, Call, load, ear, close, clear, granted, settle, step, unknown, parentCall, walkCall, orderOf, machine, session}
-use Rattle.mondschein.specs.Routes.{Tree}
+use Rattle.mondschein.specs.Judge.{Answer, given, verdict, judge, closing}
+use Rattle.mondschein.specs.Order.{position, fromA, between, extend, order, parent1, parent2, parentOf, walkOf}
+use Rattle.mondschein.specs.Machine.{State, empty, opened, closed, Call, load, ear, close, clear, granted, settle, step, parentCall, walkCall, orderOf, machine, session}
 use Rattle.mondschein.specs.Demands.{Alike, EitherEnd}
 use Rattle.mondschein.proofs.Logic.{which, clash, same?, or-true}
-use Rattle.mondschein.proofs.Search.{low-ext, count-ext}
+use Rattle.mondschein.proofs.Search.{count-ext}
 use Rattle.mondschein.proofs.Lists.{at-same, at-reverse, holds-reverse}
-use Rattle.mondschein.proofs.Links.{joined-sym, linkOf-sym, passes-reverse, adjacent-below}
-use Rattle.mondschein.proofs.Checks.{check-fail, Passed, new-between, between-new}
-use Rattle.mondschein.proofs.Calls.{known-below, known-tree}
-use Rattle.mondschein.proofs.Agreement.{check-ext, verdict-ext, closing-ext}
+use Rattle.mondschein.proofs.Links.{joined-sym, linkOf-sym, passes-reverse}
+use Rattle.mondschein.proofs.Checks.{Passed, new-between, between-new}
+use Rattle.mondschein.proofs.Agreement.{verdict-ext, closing-ext, parent-ext, written-ext}
 use Rattle.mondschein.proofs.Births.{Passing, accepted-passing, later, born-snoc, used-snoc, birth-old, birth-new, birth-unborn}
 use Rattle.mondschein.proofs.Order.{put, extend-is, fromA-reverse}
 use Rattle.mondschein.proofs.Growth.{order-snoc, next-fits, order-some, parent1-root, parent2-root, parent2-first, parent1-old, parent2-old, parent1-new, parent2-new}
-use Rattle.mondschein.proofs.Routes.{walk-ext}
-use Rattle.mondschein.proofs.Trees.{all-born, third-rule, closed-routes}
+use Rattle.mondschein.proofs.Trees.{parent3-ext, all-born, walk-of}
 use Rattle.mondschein.proofs.Counts.{judge-passed, judged, judge-count}
 use Rattle.mondschein.proofs.History.{Reached, state-of, reached-of, reached}
 
@@ -221,39 +218,20 @@ module _ (net : Network) (es es′ : Ears) (tw : Equivalent net es es′) where
   -- the tables of a closed list
   module _ (proper : Proper net) (acc : Passing net es) (done : (l : ℕ) → l < size net → used net es l ≡ true) where
     same-parent : (t v : ℕ) → v < net .n → parentOf net es t v ≡ parentOf net es′ t v
-    unfolding parentOf parent3By
+    unfolding parentOf
     same-parent t v l =
         let b = all-born net proper es acc done v l in
         rw (tw .firsts v b, tw .seconds v b)
-        (ap (λ (k : ℕ). cond (eqb t 1) (parent1 net es′ v) (cond (eqb t 2) (parent2 net es′ v) (cond (eqb v (net .root)) v (cond (eqb v (net .last)) (net .root) k))))
-        (low-ext (λ x. joined net v x && ltb (birth es v) (birth es x)) (λ x. joined net v x && ltb (birth es′ v) (birth es′ x)) (net .n)
-        (λ x _. ap₂ (λ (i j : ℕ). joined net v x && ltb i j) (tw .births v) (tw .births x))))
-
-    same-walk : (t v : ℕ) → Tree t → v < net .n → walkOf net es t v ≡ walkOf net es′ t v
-    unfolding walkOf parentOf
-    same-walk t v m l = walk-ext (net .root) (net .n) (parentOf net es t) (parentOf net es′ t) (same-parent t) below (pred (net .n)) v l
-      where
-        below : (x : ℕ) → x < net .n → x ≢ net .root → parentOf net es t x < net .n
-        below x k d =
-            adjacent-below net proper x _ (closed-routes net proper es acc done (parentOf net es) (λ v _. refl) (λ v _. refl) (third-rule net proper es acc done) .trees t m .linked x k d) .1
+        (ap (λ (k : ℕ). cond (eqb t 1) (parent1 net es′ v) (cond (eqb t 2) (parent2 net es′ v) k))
+        (parent3-ext net (birth es) (birth es′) v (λ x _. ap₂ ltb (tw .births v) (tw .births x))))
 
     same-parents : (v t : ℕ) → parentCall (closed net es) v t ≡ parentCall (closed net es′) v t
     unfolding parentCall
-    same-parents v t =
-        check-ext 17 1 _ _ _ _ (λ k l. refl)
-        (λ c. ap (λ (x : ℕ). given (x ∷ [])) (same-parent t v (known-below net v t (c 0 (omega arith)))))
+    same-parents v t = parent-ext net v t _ _ (λ l m. same-parent t v l)
 
     same-walks : (v t : ℕ) (out : List ℕ) → walkCall (closed net es) v t out ≡ walkCall (closed net es′) v t out
-    unfolding walkCall settle granted
-    same-walks v t out =
-        ⊎-elim
-        (λ u.
-        ap (settle out (walkOf net es t v ++ drop (length (walkOf net es t v)) out)) (check-fail 17 _ _ u)
-        ∙ sym (ap (settle out (walkOf net es′ t v ++ drop (length (walkOf net es′ t v)) out)) (check-fail 17 _ _ u)))
-        (λ k.
-        ap (λ (w : List ℕ). settle out (w ++ drop (length w) out) (check 17 1 (unknown net v t) (check 18 1 (λ j. ltb (length out) (length w)) (given (length w ∷ [])))))
-        (same-walk t v (known-tree net v t k) (known-below net v t k)))
-        (which (unknown net v t 0))
+    unfolding walkCall walkOf
+    same-walks v t out = written-ext net v t out _ _ (λ l m. walk-of net proper es acc done t m (parentOf net es′ t) (same-parent t) v l)
 
 same-answer : {s s′ : State} → Bisimilar s s′ → (c : Call) → step s c .answer ≡ step s′ c .answer
 unfolding step settle

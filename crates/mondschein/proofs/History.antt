@@ -17,7 +17,7 @@ use Rattle.mondschein.proofs.Loading.{loading-given}
 use Rattle.mondschein.proofs.Counts.{judge-passed, judged}
 
 -- one call does to the state what its answer tells
-step-told : (s : State) (c : Call) → step s c .after ≡ cond (granted (step s c .answer)) (told s c) s
+pub step-told : (s : State) (c : Call) → step s c .after ≡ cond (granted (step s c .answer)) (told s c) s
 unfolding step settle told granted
 step-told empty (load net) = refl
 step-told (opened net es) (load net′) = refl
@@ -55,7 +55,7 @@ pub closing-used : (net : Network) (es : Ears) (vs : List ℕ) → closing net (
 unfolding closing
 closing-used net es vs q l m = not-false _ (check-given _ _ _ _ vs q .0 l m)
 
-step-reached : (s : State) (c : Call) → Reached s → Reached (step s c .after)
+pub step-reached : (s : State) (c : Call) → Reached s → Reached (step s c .after)
 unfolding step settle granted Reached
 step-reached empty (load net) r = settled empty (opened net []) (loading net) tt (λ vs q. (loading-given net vs q .0, λ i l. absurd (omega arith)))
 step-reached (opened net es) (load net′) r = r

@@ -11,6 +11,7 @@ pub mod Loading
 pub mod Order
 pub mod Growth
 pub mod Inner
+pub mod Next
 pub mod Routes
 pub mod Trees
 pub mod Sound
@@ -22,3 +23,4 @@ pub mod Demand1
 pub mod Demand2
 pub mod Demand3
 pub mod EitherEnd
+pub mod Implementation

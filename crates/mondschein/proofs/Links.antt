@@ -1,8 +1,8 @@
 -- Laws of links: which switches they join, which lists they lie along, and that a proper network has one link for a pair.
 -- `joins`, `joined` and `passes` decide `Joins`, `Adjacent` and `Along`.
-use mathlib.Core.Path.{_≡_, refl, sym, ap₂, _∙_, subst}
+use mathlib.Core.Path.{_≡_, refl, sym, ap, ap₂, _∙_, subst}
 use mathlib.Core.Logic.{_⊎_, inl, inr, ⊎-elim}
-use mathlib.Core.Bool.{Bool, true, false, _&&_, or-comm}
+use mathlib.Core.Bool.{Bool, true, false, _&&_, _||_, or-comm}
 use mathlib.Core.List.{List, [], _∷_, _++_, reverse, reverse-reverse}
 use Prim.Native.Nat.{ℕ, zero, suc, pred, _-_, _<_}
 use native.Mathlib.Omega.{arith}
@@ -10,10 +10,10 @@ use lib.Dec.{eqb, ltb}
 use lib.ListN.{length, length-append, List·getD-append}
 use lib.ListN as L
 use lib.Seq.{getD-at}
-use borrow.Author.Tests.{eqb-true, eq-eqb}
+use borrow.Author.Tests.{eqb-true, eq-eqb, ne-eqb}
 use Rattle.mondschein.specs.Network.{any, Network, at, holds, size, former, latter, Joins, Adjacent, Along, joins, joined, passes, linkOf, Proper, trail}
 use Rattle.mondschein.proofs.Logic.{which, clash, less?, and-true, or-true, true-and, or-left, true-or}
-use Rattle.mondschein.proofs.Search.{low-ext, low-found, any-true, true-any}
+use Rattle.mondschein.proofs.Search.{low-ext, low-found, any-true, true-any, any-suc, any-ext}
 use Rattle.mondschein.proofs.Lists.{at-same, at-reverse, holds-in, holds-by}
 
 pub passes-nil : {X : Type 0} (net : Network) (v i : ℕ) → passes net (v ∷ []) i ≡ true → X
@@ -139,6 +139,18 @@ trail-passes net true e k l m h =
     (omega (arith, length-append e (at e 0 ∷ [])))
     (rw (List·getD-append e (at e 0 ∷ []) 0 k (omega arith), List·getD-append e (at e 0 ∷ []) 0 (suc k) m) h)
 
+-- a cycle passes the links between its neighbours, and its closing link
+pub cycle-passes : (net : Network) (e : List ℕ) (l : ℕ) → 0 < length e → passes net (trail true e) l ≡ (passes net e l || joins net l (at e (pred (length e))) (at e 0))
+unfolding trail passes
+cycle-passes net e l h =
+    let c = e ++ (at e 0 ∷ []) in
+    let z : suc (pred (length e)) ≡ length e = omega arith in
+    ap (any (λ k. joins net l (at c k) (at c (suc k)))) (let q : pred (length c) ≡ suc (pred (length e)) = omega (arith, length-append e (at e 0 ∷ [])) in q)
+    ∙ any-suc (λ k. joins net l (at c k) (at c (suc k))) (pred (length e))
+    ∙ ap₂ _||_
+    (any-ext _ _ (pred (length e)) (λ k m. ap₂ (joins net l) (List·getD-append e (at e 0 ∷ []) 0 k (omega arith)) (List·getD-append e (at e 0 ∷ []) 0 (suc k) (omega arith))))
+    (ap₂ (joins net l) (List·getD-append e (at e 0 ∷ []) 0 (pred (length e)) (omega arith)) (getD-at e (at e 0) [] 0 (suc (pred (length e))) (sym z)))
+
 module _ (net : Network) where
   pub joined-link : (x y : ℕ) → joined net x y ≡ ltb (linkOf net x y) (size net)
   unfolding joined linkOf any
@@ -157,6 +169,13 @@ link-unique net proper l a b m h =
     (λ u. ⊎-elim (λ v. inl (cc, cc)) (λ v. inr (cc, cc)) (joins-cases net (linkOf net a b) a b h′))
     (λ u. ⊎-elim (λ v. inr (cc, cc)) (λ v. inl (cc, cc)) (joins-cases net (linkOf net a b) a b h′))
     (joins-cases net l a b h))
+
+pub link-is : (net : Network) → Proper net → (l a b : ℕ) → l < size net → joined net a b ≡ true → eqb (linkOf net a b) l ≡ joins net l a b
+link-is net proper l a b m j =
+    ⊎-elim
+    (λ t. eq-eqb _ _ (link-unique net proper l a b m t) ∙ sym t)
+    (λ f. ne-eqb _ _ (λ e. clash (subst (λ (i : ℕ). joins net i a b ≡ true) e (link-found net a b j .1)) f) ∙ sym f)
+    (which (joins net l a b))
 
 pub adjacent-below : (net : Network) → Proper net → (a b : ℕ) → Adjacent net a b → (a < net .n) × (b < net .n)
 adjacent-below net proper a b (i, l, j) =
