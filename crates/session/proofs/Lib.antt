@@ -5,5 +5,6 @@ pub mod HeldLoad
 pub mod HeldEar
 pub mod HeldClose
 pub mod Refines
+pub mod Reading
 pub mod Demand1
 pub mod Implements

@@ -25,5 +25,5 @@ steps p zero v = v ∷ []
 steps p (suc k) v = v ∷ steps p k (p v)
 
 -- the walk w written at the start of the slice `out`. 18: the slice is shorter than the walk
-unfoldable pub written : List ℕ → List ℕ → Outcome (List ℕ)
-written w out = settle out (w ++ drop (length w) out) (check 18 1 (λ k. ltb (length out) (length w)) (given (length w ∷ [])))
+unfoldable pub walkInto : List ℕ → List ℕ → Outcome (List ℕ)
+walkInto w out = settle out (w ++ drop (length w) out) (check 18 1 (λ k. ltb (length out) (length w)) (given (length w ∷ [])))

@@ -8,7 +8,7 @@ ghost use Rattle.mondschein.specs.Network.{at};
 ghost use Rattle.mondschein.specs.Order.{walkBy};
 ghost use Rattle.mondschein.specs.Machine.{unknown};
 ghost use Rattle.network.specs.Load.{networkOf};
-ghost use Rattle.walks.specs.Walks.{walkAnswer, steps, written};
+ghost use Rattle.walks.specs.Walks.{walkAnswer, steps, walkInto};
 
 // The answer to parent: the entry of the switch, or a refusal's number and place.
 pub enum Parent {
@@ -87,7 +87,7 @@ fn most_links(n: u16) -> u16
 
 // The walk of v in a tree of n switches, at the start of the slice: 18 where the slice is shorter.
 pub fn walk_by(row: &[u16], n: u16, root: u16, v: u16, out: &mut [u16]) -> Walk
-    ensures { λ r. ⌜ (walkAnswer r ≡ written (walkBy root (at (now (row .entry))) (pred n) v) (now (out .entry)) .answer) × (now (out .exit) ≡ written (walkBy root (at (now (row .entry))) (pred n) v) (now (out .entry)) .after) ⌝ }
+    ensures { λ r. ⌜ (walkAnswer r ≡ walkInto (walkBy root (at (now (row .entry))) (pred n) v) (now (out .entry)) .answer) × (now (out .exit) ≡ walkInto (walkBy root (at (now (row .entry))) (pred n) v) (now (out .entry)) .after) ⌝ }
 {
     let left = links_left(row, root, v, most_links(n));
     let count = left + 1;
