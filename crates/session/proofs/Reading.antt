@@ -8,7 +8,7 @@ use native.Mathlib.Omega.{arith}
 use lib.Dec.{ltb}
 use lib.ListN.{length, getD}
 use Rattle.mondschein.specs.Network.{at}
-use Rattle.mondschein.specs.Judge.{Answer, given, refused, check}
+use Rattle.mondschein.specs.Judge.{given, refused, check}
 use Rattle.mondschein.specs.Order.{walkBy}
 use Rattle.mondschein.specs.Machine.{granted, settle, unknown}
 use Rattle.mondschein.specs.Routes.{Tree}
