@@ -48,6 +48,7 @@ module _ (s : Session) (v t : ℕ) where
   parent-entry q u = sym (on-closed _ _ _ q ∙ check-pass 17 1 _ _ (λ _ _. u))
 
 module _ (s : Session) (v t : ℕ) (out : List ℕ) where
+  -- a refusal leaves the slice
   refuses : {num : ℕ}
       → byStage (s .stage) (refused 19 0) (refused 21 0) (check 17 1 (unknown (networkIn s) v t) (check 18 1 (λ k. ltb (length out) (length (walkIn s t v))) (given (length (walkIn s t v) ∷ [])))) ≡ refused num 0
       → (refused num 0 ≡ walkedBy s v t out .answer) × (out ≡ walkedBy s v t out .after)

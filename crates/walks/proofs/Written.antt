@@ -14,6 +14,7 @@ use Rattle.walks.specs.Walks.{steps, walkInto}
 use Rattle.walks.proofs.Steps.{steps-walk}
 
 module _ (root : ℕ) (p : ℕ → ℕ) (n v : ℕ) {limit left : ℕ} (out : List ℕ) (m : limit ≡ pred n) (q : suc left ≡ length (walkBy root p limit v)) where
+  -- the walk has one switch more than links are left
   count : suc left ≡ length (walkBy root p (pred n) v)
   count = q ∙ ap (λ (k : ℕ). length (walkBy root p k v)) m
 

@@ -46,7 +46,7 @@ pub fn entry(row: &[u16], v: u16) -> u16
     0
 }
 
-// The links from v to the root, at most so many as the limit: one less than the walk has switches.
+// The links from v to the root, at most the limit: one less than the walk has switches.
 fn links_left(row: &[u16], root: u16, v: u16, limit: u16) -> u16
     ensures { λ r. ⌜ suc r ≡ length (walkBy root (at (now (row .entry))) limit v) ⌝ }
 {
@@ -62,7 +62,7 @@ fn links_left(row: &[u16], root: u16, v: u16, limit: u16) -> u16
     k
 }
 
-// Writes v and the steps from it, as many as links are left to the root, at the start of the slice.
+// Writes the walk of v, with so many links left to the root, at the start of the slice.
 fn write_walk(row: &[u16], v: u16, left: u16, out: &mut [u16])
     requires { ⌜ left < length (now out) ⌝ }
     ensures { λ _. ⌜ now (out .exit) ≡ steps (at (now (row .entry))) left v ++ drop (suc left) (now (out .entry)) ⌝ }
