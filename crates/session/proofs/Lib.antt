@@ -1,9 +1,9 @@
-pub mod Loads
 pub mod Answers
-pub mod Refuses
+pub mod Loads
 pub mod HeldLoad
 pub mod HeldEar
 pub mod HeldClose
+pub mod Refuses
 pub mod Refines
 pub mod Demand1
 pub mod Implements

@@ -4,7 +4,6 @@ use judge::Ear;
 use network::Load;
 use tables::Close;
 ghost use mathlib.Core.Path.{_≡_};
-ghost use mathlib.Core.List.{[]};
 ghost use Prim.Native.Nat.{_*_, _≤_, min};
 ghost use lib.Dec.{eqb};
 ghost use lib.ListN.{length};
@@ -147,7 +146,7 @@ fn opened(n: u16, links: &[u16], root: u16, first: u16, last: u16) -> Session
         first,
         last,
         links: table,
-        used: [0u8; 4096],
+        used: [0; 4096],
         longs: 0,
         births: [0u16; 1024],
         born: 0,
