@@ -216,14 +216,12 @@ fn accepted(s: Session, ear: &[u16]) -> Session
     requires { ⌜ 2 ≤ length (now ear) ⌝ }
     ensures { λ r. ⌜ r ≡ withTables s (afterEar (networkIn s) (now (ear .entry)) (tablesIn s)) ⌝ }
 {
-    let stage = s.stage;
     let links = s.links;
     let mut used = s.used;
     let mut births = s.births;
     let mut order = s.order;
     let mut tree1 = s.tree1;
     let mut tree2 = s.tree2;
-    let tree3 = s.tree3;
     let numbers = table_length(s.m);
     let counts = tables::accept(
         &links[..numbers],
@@ -236,23 +234,15 @@ fn accepted(s: Session, ear: &[u16]) -> Session
         &mut tree1,
         &mut tree2,
     );
-    Session {
-        stage,
-        n: s.n,
-        m: s.m,
-        root: s.root,
-        first: s.first,
-        last: s.last,
-        links,
-        used,
-        longs: counts.longs,
-        births,
-        born: counts.born,
-        order,
-        tree1,
-        tree2,
-        tree3,
-    }
+    let mut next = s;
+    next.used = used;
+    next.longs = counts.longs;
+    next.births = births;
+    next.born = counts.born;
+    next.order = order;
+    next.tree1 = tree1;
+    next.tree2 = tree2;
+    next
 }
 
 // Checks 7 to 16, and the session that has accepted the ear where they are clear.
