@@ -1,8 +1,8 @@
 use mathlib.Core.Path.{sym}
 use lib.ListN.{List·getD-eq-default}
 use borrow.Author.Needs.{needs}
-use Rattle.judge.proofs.birth_of.Statement.{statement}
-use Rattle.judge.proofs.birth_of.Tie as tie
+use Rattle.order.proofs.entry.Statement.{statement}
+use Rattle.order.proofs.entry.Tie as tie
 
 mul-result : tie.Need-mul-result
 mul-result c = search needs
@@ -14,7 +14,7 @@ returns : tie.Need-returns
 returns c = search needs
 
 returns-2 : tie.Need-returns-2
-returns-2 c = sym (List·getD-eq-default (c .before .args .births .now) 0 (c .if1 .left))
+returns-2 c = sym (List·getD-eq-default (c .before .args .row .now) 0 (c .if1 .left))
 
-pub birth-of-spec : {M : Type 1} → statement M
-birth-of-spec = tie.close (tie.spec mul-result shared-slice-read-result returns returns-2)
+pub entry-spec : {M : Type 1} → statement M
+entry-spec = tie.close (tie.spec mul-result shared-slice-read-result returns returns-2)
