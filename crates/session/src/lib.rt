@@ -3,6 +3,8 @@
 use judge::Ear;
 use network::Load;
 use tables::Close;
+use walks::Parent;
+use walks::Walk;
 ghost use mathlib.Core.Path.{_≡_};
 ghost use Prim.Native.Nat.{_*_, _≤_, min};
 ghost use lib.Dec.{eqb};
@@ -12,7 +14,9 @@ ghost use Rattle.mondschein.specs.Machine.{settle};
 ghost use Rattle.network.specs.Load.{networkOf};
 ghost use Rattle.judge.specs.Ear.{marked};
 ghost use Rattle.tables.specs.Tables.{afterEar, tree3Of};
+ghost use Rattle.walks.specs.Walks.{parentAnswer, walkAnswer};
 ghost use Rattle.session.specs.Session.{emptySession, padded, openedWith, networkIn, tablesIn, withTables, closedWith, loadedBy, offeredBy, closedBy, clearedBy, loadOutcome, earOutcome, closeOutcome, clearOutcome};
+ghost use Rattle.session.specs.Program.{treeIn, parentBy, walkedBy};
 
 pub enum Stage {
     Empty,
@@ -351,4 +355,58 @@ pub fn close(s: Session) -> Closing
         Stage::Open => close_open(s),
         Stage::Closed => close_refused(22, 0, s),
     }
+}
+
+// The row of a tree, 1 to 3, out of the three parent tables.
+fn tree_row(s: Session, tree: u16) -> [u16; 1024]
+    requires { ⌜ (1 ≤ tree) × (tree ≤ 3) ⌝ }
+    ensures { λ r. ⌜ r ≡ treeIn s tree ⌝ }
+{
+    let one = s.tree1;
+    let two = s.tree2;
+    let three = s.tree3;
+    let mut tables = [[0u16; 1024]; 3];
+    tables[0] = one;
+    tables[1] = two;
+    tables[2] = three;
+    let t = (tree - 1) as usize;
+    tables[t]
+}
+
+// The entry of a switch in the table of a tree, 1 to 3: 19 on an empty session, 21 on an open one, then check 17.
+pub fn parent(s: Session, switch: u16, tree: u16) -> Parent
+    ensures { λ r. ⌜ parentAnswer r ≡ parentBy s switch tree ⌝ }
+{
+    let stage = s.stage;
+    let Stage::Closed = stage else {
+        return match stage {
+            Stage::Empty => Parent::Refused(19, 0),
+            Stage::Open => Parent::Refused(21, 0),
+            Stage::Closed => Parent::Refused(21, 0),
+        };
+    };
+    if walks::unknown(s.n, switch, tree) {
+        return Parent::Refused(17, 0);
+    }
+    let row = tree_row(s, tree);
+    Parent::Entry(walks::entry(&row, switch))
+}
+
+// The walk of a switch in a tree, 1 to 3, at the start of the slice: 19 on an empty session, 21 on an open one, then checks 17 and 18.
+pub fn walk(s: Session, switch: u16, tree: u16, out: &mut [u16]) -> Walk
+    ensures { λ r. ⌜ (walkAnswer r ≡ walkedBy s switch tree (now (out .entry)) .answer) × (now (out .exit) ≡ walkedBy s switch tree (now (out .entry)) .after) ⌝ }
+{
+    let stage = s.stage;
+    let Stage::Closed = stage else {
+        return match stage {
+            Stage::Empty => Walk::Refused(19, 0),
+            Stage::Open => Walk::Refused(21, 0),
+            Stage::Closed => Walk::Refused(21, 0),
+        };
+    };
+    if walks::unknown(s.n, switch, tree) {
+        return Walk::Refused(17, 0);
+    }
+    let row = tree_row(s, tree);
+    walks::walk_by(&row, s.n, s.root, switch, out)
 }

@@ -1,0 +1,36 @@
+-- The number of switches of a walk that is cut after a limit, as a loop along the row counts them, k of them behind it.
+-- A cut walk has at most one switch more than the limit.
+use mathlib.Core.Path.{_≡_}
+use mathlib.Core.Bool.{Bool, true, false, cond}
+use mathlib.Core.List.{List, [], _∷_}
+use Prim.Native.Nat.{ℕ, zero, suc, _+_, _-_, _≤_, _<_}
+use native.Mathlib.Omega.{arith}
+use lib.Dec.{eqb}
+use lib.ListN.{length}
+use Rattle.mondschein.specs.Order.{walkBy}
+
+module _ (root : ℕ) (p : ℕ → ℕ) (limit : ℕ) where
+  pub walk-begin : (v : ℕ) → length (walkBy root p limit v) ≡ 0 + length (walkBy root p (limit - 0) v)
+  walk-begin v = let e : limit - 0 ≡ limit = omega arith in rw e (omega arith)
+
+  pub walk-at-root : (v k : ℕ) → k < limit → eqb v root ≡ true → k + length (walkBy root p (limit - k) v) ≡ suc k
+  unfolding walkBy
+  walk-at-root v k h t = let e : limit - k ≡ suc (limit - (k + 1)) = omega arith in rw (e, t) (omega arith)
+
+  pub walk-next : (v k : ℕ) → k < limit → eqb v root ≡ false → k + length (walkBy root p (limit - k) v) ≡ k + 1 + length (walkBy root p (limit - (k + 1)) (p v))
+  unfolding walkBy
+  walk-next v k h t = let e : limit - k ≡ suc (limit - (k + 1)) = omega arith in rw (e, t) (omega arith)
+
+  pub walk-cut : (v k : ℕ) → k ≡ limit → k + length (walkBy root p (limit - k) v) ≡ suc k
+  unfolding walkBy
+  walk-cut v k h = let e : limit - k ≡ 0 = omega arith in rw e (omega arith)
+
+pub walk-bound : (root : ℕ) (p : ℕ → ℕ) (limit v : ℕ) → (0 < length (walkBy root p limit v)) × (length (walkBy root p limit v) ≤ suc limit)
+unfolding walkBy
+walk-bound root p zero v = omega arith
+walk-bound root p (suc k) v = go (eqb v root) (walk-bound root p k (p v) .1)
+  where
+    go : (b : Bool) → length (walkBy root p k (p v)) ≤ suc k
+        → (0 < length (cond b (v ∷ []) (v ∷ walkBy root p k (p v)))) × (length (cond b (v ∷ []) (v ∷ walkBy root p k (p v))) ≤ suc (suc k))
+    go true h = omega arith
+    go false h = omega arith
