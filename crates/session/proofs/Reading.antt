@@ -8,7 +8,7 @@ use native.Mathlib.Omega.{arith}
 use lib.Dec.{ltb}
 use lib.ListN.{length, getD}
 use Rattle.mondschein.specs.Network.{at}
-use Rattle.mondschein.specs.Judge.{Answer, given, refused, check}
+use Rattle.mondschein.specs.Judge.{given, refused, check}
 use Rattle.mondschein.specs.Order.{walkBy}
 use Rattle.mondschein.specs.Machine.{granted, settle, unknown}
 use Rattle.mondschein.specs.Routes.{Tree}
@@ -19,7 +19,7 @@ use Rattle.session.specs.declared.Stage.the-variants.{Empty, Open, Close
 use Rattle.session.specs.declared.Session.{Session}
 use Rattle.session.specs.Session.{networkIn, byStage}
 use Rattle.session.specs.Program.{treeIn, walkIn, parentBy, walkedBy}
-use Rattle.session.proofs.Refines.{on-empty, on-open, on-closed}
+use Rattle.session.proofs.Answers.{on-empty, on-open, on-closed}
 
 -- the rows of the three tables, of which tree t is row t - 1
 pub row-of-tree : (s : Session) (t : ℕ) → Tree t → getD (s .tree1 ∷ s .tree2 ∷ s .tree3 ∷ []) (t - 1) [] ≡ treeIn s t

@@ -389,7 +389,7 @@ pub fn parent(s: Session, switch: u16, tree: u16) -> Parent
         return Parent::Refused(17, 0);
     }
     let row = tree_row(s, tree);
-    Parent::Entry(walks::entry(&row, switch))
+    Parent::Entry(order::entry(&row, switch))
 }
 
 // The walk of a switch in a tree, 1 to 3, at the start of the slice: 19 on an empty session, 21 on an open one, then checks 17 and 18.

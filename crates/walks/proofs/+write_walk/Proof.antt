@@ -11,7 +11,7 @@ use borrow.Fn.PlainCycle.{Measures, is, falls, and}
 use Rattle.walks.proofs.write_walk.Reads as write-walk
 use Rattle.walks.proofs.write_walk.Kinds as write-walk-kinds
 use Rattle.walks.proofs.+write_walk.Lts-write_walk as write-walk-lts
-use Rattle.walks.proofs.entry.Reads as entry-reads
+use Rattle.order.proofs.entry.Reads as entry-reads
 use Rattle.walks.proofs.+write_walk.{statement}
 use Rattle.walks.proofs.+write_walk.Tie.{close}
 

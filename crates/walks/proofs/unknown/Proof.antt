@@ -1,4 +1,3 @@
-use mathlib.Core.Path.{sym}
 use borrow.Author.Tests.{le-leb, lt-leb, lt-ltb, le-ltb}
 use Rattle.mondschein.specs.Machine.{unknown}
 use Rattle.walks.proofs.unknown.Statement.{statement}
