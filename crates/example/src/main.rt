@@ -1,79 +1,165 @@
-// The worked example of document 01 up to (closed), through the session's calls.
-// Each answer is written as the lines of document 01 write it.
+// The worked example of document 01, its cards i and l and the cards below them, through the session's calls.
+// Each answer is written as the lines of document 01 write it, and that of parent as (parent switch tree entry).
 use judge::Ear;
 use network::Load;
 use session::Session;
 use tables::Close;
+use walks::Parent;
+use walks::Walk;
 
-fn write_number(n: u16) {
-    io::write_all(1, b" ");
-    io::print_decimal(1, n as u64);
+// The numbers of a list, at most so many as the count, one space between them.
+fn write_list(list: &[u16], count: usize) {
+    let mut i = 0;
+    while i < list.len() {
+        if count <= i {
+            return;
+        }
+        if 0 < i {
+            io::write_all(1, b" ");
+        }
+        io::print_decimal(1, list[i] as u64);
+        i += 1;
+    }
 }
 
-fn write_refusal(number: u8, place: u16) {
-    io::write_all(1, b"(refused");
-    write_number(number as u16);
-    write_number(place);
+// A line of a word and its numbers.
+fn write_form(word: &[u8], numbers: &[u16]) {
+    io::write_all(1, b"(");
+    io::write_all(1, word);
+    io::write_all(1, b" ");
+    write_list(numbers, numbers.len());
     io::write_all(1, b")\n");
 }
 
-fn write_load(answer: Load) {
+// The line of a refusal.
+fn write_refusal(number: u8, place: u16) {
+    write_form(b"refused", &[number as u16, place]);
+}
+
+// Loads a network into a fresh session, writes the answer, and gives the session after it.
+fn load(n: u16, links: &[u16], root: u16, first: u16, last: u16) -> Session {
+    let loaded = session::load(Session::empty(), n, links, root, first, last);
+    let answer = loaded.answer;
     match answer {
-        Load::Loaded(n, m) => {
-            io::write_all(1, b"(opened");
-            write_number(n);
-            write_number(m);
-            io::write_all(1, b")\n");
-        }
+        Load::Loaded(switches, size) => write_form(b"opened", &[switches, size]),
         Load::Refused(number, place) => write_refusal(number, place),
     }
-}
-
-fn write_ear(answer: Ear) {
-    match answer {
-        Ear::New(count) => {
-            io::write_all(1, b"(new");
-            write_number(count);
-            io::write_all(1, b")\n");
-        }
-        Ear::Refused(number, place) => write_refusal(number, place),
-    }
-}
-
-fn write_close(answer: Close) {
-    match answer {
-        Close::Closed => {
-            io::write_all(1, b"(closed)\n");
-        }
-        Close::Refused(number, place) => write_refusal(number, place),
-    }
+    loaded.session
 }
 
 // Offers an ear, writes the answer, and gives the session after it.
 fn offer(s: Session, ear: &[u16]) -> Session {
     let offered = session::ear(s, ear);
     let answer = offered.answer;
-    write_ear(answer);
+    match answer {
+        Ear::New(count) => write_form(b"new", &[count]),
+        Ear::Refused(number, place) => write_refusal(number, place),
+    }
     offered.session
 }
 
 // Closes, writes the answer, and gives the session after it.
-fn finish(s: Session) -> Session {
+fn close(s: Session) -> Session {
     let closing = session::close(s);
     let answer = closing.answer;
-    write_close(answer);
+    match answer {
+        Close::Closed => {
+            io::write_all(1, b"(closed)\n");
+        }
+        Close::Refused(number, place) => write_refusal(number, place),
+    }
     closing.session
 }
 
-fn main() {
+// Writes what parent answers.
+fn parent(s: Session, switch: u16, tree: u16) {
+    let answer = session::parent(s, switch, tree);
+    match answer {
+        Parent::Entry(entry) => write_form(b"parent", &[switch, tree, entry]),
+        Parent::Refused(number, place) => write_refusal(number, place),
+    }
+}
+
+// Writes what walk answers, and the walk out of the slice.
+fn walk(s: Session, switch: u16, tree: u16, out: &mut [u16]) {
+    let answer = session::walk(s, switch, tree, out);
+    match answer {
+        Walk::Count(count) => {
+            io::write_all(1, b"(walk ");
+            write_list(&[switch, tree], 2);
+            io::write_all(1, b" (");
+            write_list(out, count as usize);
+            io::write_all(1, b"))\n");
+        }
+        Walk::Refused(number, place) => write_refusal(number, place),
+    }
+}
+
+// The three walks of a switch, and its three entries.
+fn routes(s: Session, switch: u16) {
+    let mut out = [0u16; 6];
+    walk(s, switch, 1, &mut out);
+    walk(s, switch, 2, &mut out);
+    walk(s, switch, 3, &mut out);
+    parent(s, switch, 1);
+    parent(s, switch, 2);
+    parent(s, switch, 3);
+}
+
+// The worked example.
+fn worked_example() {
     let links: [u16; 12] = [0, 1, 0, 2, 0, 3, 1, 2, 1, 3, 2, 3];
-    let loaded = session::load(Session::empty(), 4, &links, 0, 1, 3);
-    let answer = loaded.answer;
-    write_load(answer);
-    let mut s = loaded.session;
+    let mut out = [0u16; 4];
+    let mut s = load(4, &links, 0, 1, 3);
     s = offer(s, &[0, 2, 1]);
     s = offer(s, &[2, 3, 1]);
-    s = finish(s);
+    s = close(s);
     s = offer(s, &[0, 3]);
-    finish(s);
+    s = close(s);
+    walk(s, 2, 3, &mut out);
+}
+
+// On the first network: card i, and the walks and entries that are refused.
+fn first_network() {
+    let links: [u16; 12] = [0, 1, 0, 2, 0, 3, 1, 2, 1, 3, 2, 3];
+    load(3, &links, 0, 1, 2);
+    load(1025, &links, 0, 1, 3);
+    load(1024, &links, 0, 1, 3);
+    let mut out = [0u16; 2];
+    let mut s = load(4, &links, 0, 1, 3);
+    walk(Session::empty(), 3, 1, &mut out);
+    walk(s, 3, 1, &mut out);
+    s = offer(s, &[]);
+    s = offer(s, &[0, 2, 1]);
+    s = offer(s, &[2, 3, 1]);
+    s = offer(s, &[0, 3]);
+    s = close(s);
+    routes(s, 3);
+    routes(s, 0);
+    walk(s, 4, 1, &mut out);
+    walk(s, 2, 4, &mut out);
+    walk(s, 2, 257, &mut out);
+    walk(s, 2, 3, &mut out);
+    parent(s, 4, 1);
+    parent(s, 2, 0);
+}
+
+// On the network of card k: card l, and the walks of 3.
+fn second_network() {
+    let links: [u16; 20] = [0, 1, 0, 2, 1, 2, 1, 3, 2, 3, 3, 4, 3, 5, 4, 5, 0, 4, 0, 5];
+    let mut s = load(6, &links, 0, 1, 5);
+    s = offer(s, &[0, 2, 1]);
+    s = offer(s, &[2, 3, 1]);
+    s = offer(s, &[3, 4, 0]);
+    s = offer(s, &[3, 5, 4]);
+    s = offer(s, &[0, 5]);
+    s = close(s);
+    routes(s, 5);
+    routes(s, 3);
+}
+
+fn main() {
+    worked_example();
+    first_network();
+    second_network();
 }

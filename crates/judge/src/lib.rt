@@ -3,7 +3,7 @@
 ghost use mathlib.Core.Path.{_≡_};
 ghost use mathlib.Core.Bool.{true, false, not, _&&_, _||_, cond};
 ghost use mathlib.Core.List.{[], _∷_};
-ghost use Prim.Native.Nat.{ℕ, pred, _+_, _*_, _≤_, _<_};
+ghost use Prim.Native.Nat.{pred, _+_, _*_, _≤_, _<_};
 ghost use lib.Dec.{eqb, ltb, leb};
 ghost use lib.ListN.{length};
 ghost use Rattle.mondschein.specs.Network.{low, any, at, holds, joined, linkOf, isNew, newCount};
@@ -85,27 +85,16 @@ pub fn first_used(links: &[u16], used: &[u8], ear: &[u16]) -> usize
     k
 }
 
-// The birth of switch v, and 0 past the end.
-pub fn birth_of(births: &[u16], v: u16) -> u16
-    ensures { λ r. ⌜ r ≡ at (now (births .entry)) v ⌝ }
-{
-    let i = v as usize;
-    if i < births.len() {
-        return births[i];
-    }
-    0
-}
-
 // 13: the index of the first end that is unborn, or the length.
 fn first_unborn_end(births: &[u16], ear: &[u16]) -> usize
     requires { ⌜ 2 ≤ length (now ear) ⌝ }
     ensures { λ r. ⌜ r ≡ low (λ k. not (isNew false (length (now (ear .entry))) k) && not (marked (now (births .entry)) (at (now (ear .entry)) k))) (length (now (ear .entry))) ⌝ }
 {
     let len = ear.len();
-    if birth_of(births, ear[0]) == 0 {
+    if order::entry(births, ear[0]) == 0 {
         return 0;
     }
-    if birth_of(births, ear[len - 1]) == 0 {
+    if order::entry(births, ear[len - 1]) == 0 {
         return len - 1;
     }
     len
@@ -117,7 +106,7 @@ pub fn first_born(births: &[u16], part: &[u16]) -> usize
 {
     let mut k = 0;
     while k < part.len() {
-        if 0 < birth_of(births, part[k]) {
+        if 0 < order::entry(births, part[k]) {
             return k;
         }
         k += 1;
@@ -129,7 +118,7 @@ pub fn first_born(births: &[u16], part: &[u16]) -> usize
 fn unborn(births: &[u16], ear: &[u16], x: u16) -> bool
     ensures { λ r. ⌜ r ≡ not (marked (now (births .entry)) x || holds (now (ear .entry)) x) ⌝ }
 {
-    if 0 < birth_of(births, x) {
+    if 0 < order::entry(births, x) {
         return false;
     }
     ear.len() <= order::position_of(ear, x)

@@ -1,11 +1,23 @@
-// The order of switches on lent slices: positions in it, and the insertion of an ear's new switches.
+// Rows of switches on lent slices: entries, positions, and the order with the insertion of an ear's new switches.
 // The order is kept at the start of an array, with its count.
 ghost use mathlib.Core.Path.{_≡_};
 ghost use mathlib.Core.List.{_++_, reverse};
 ghost use Prim.Native.Nat.{min, _+_, _-_, _≤_};
 ghost use lib.ListN.{length, take, drop};
+ghost use Rattle.mondschein.specs.Network.{at};
 ghost use Rattle.mondschein.specs.Order.{position, upward, extend};
 ghost use Rattle.order.specs.Placed.{placed, placedCount};
+
+// The entry of switch v in a row, and 0 past the end.
+pub fn entry(row: &[u16], v: u16) -> u16
+    ensures { λ r. ⌜ r ≡ at (now (row .entry)) v ⌝ }
+{
+    let i = v as usize;
+    if i < row.len() {
+        return row[i];
+    }
+    0
+}
 
 // The index of x in the list, or its length.
 pub fn position_of(list: &[u16], x: u16) -> usize

@@ -6,7 +6,6 @@ use tables::Close;
 use walks::Parent;
 use walks::Walk;
 ghost use mathlib.Core.Path.{_≡_};
-ghost use mathlib.Core.List.{[]};
 ghost use Prim.Native.Nat.{_*_, _≤_, min};
 ghost use lib.Dec.{eqb};
 ghost use lib.ListN.{length};
@@ -151,7 +150,7 @@ fn opened(n: u16, links: &[u16], root: u16, first: u16, last: u16) -> Session
         first,
         last,
         links: table,
-        used: [0u8; 4096],
+        used: [0; 4096],
         longs: 0,
         births: [0u16; 1024],
         born: 0,
@@ -221,14 +220,12 @@ fn accepted(s: Session, ear: &[u16]) -> Session
     requires { ⌜ 2 ≤ length (now ear) ⌝ }
     ensures { λ r. ⌜ r ≡ withTables s (afterEar (networkIn s) (now (ear .entry)) (tablesIn s)) ⌝ }
 {
-    let stage = s.stage;
     let links = s.links;
     let mut used = s.used;
     let mut births = s.births;
     let mut order = s.order;
     let mut tree1 = s.tree1;
     let mut tree2 = s.tree2;
-    let tree3 = s.tree3;
     let numbers = table_length(s.m);
     let counts = tables::accept(
         &links[..numbers],
@@ -241,23 +238,15 @@ fn accepted(s: Session, ear: &[u16]) -> Session
         &mut tree1,
         &mut tree2,
     );
-    Session {
-        stage,
-        n: s.n,
-        m: s.m,
-        root: s.root,
-        first: s.first,
-        last: s.last,
-        links,
-        used,
-        longs: counts.longs,
-        births,
-        born: counts.born,
-        order,
-        tree1,
-        tree2,
-        tree3,
-    }
+    let mut next = s;
+    next.used = used;
+    next.longs = counts.longs;
+    next.births = births;
+    next.born = counts.born;
+    next.order = order;
+    next.tree1 = tree1;
+    next.tree2 = tree2;
+    next
 }
 
 // Checks 7 to 16, and the session that has accepted the ear where they are clear.
@@ -400,7 +389,7 @@ pub fn parent(s: Session, switch: u16, tree: u16) -> Parent
         return Parent::Refused(17, 0);
     }
     let row = tree_row(s, tree);
-    Parent::Entry(walks::entry(&row, switch))
+    Parent::Entry(order::entry(&row, switch))
 }
 
 // The walk of a switch in a tree, 1 to 3, at the start of the slice: 19 on an empty session, 21 on an open one, then checks 17 and 18.

@@ -219,7 +219,7 @@ fn lower(row: &mut [u16], births: &[u16], a: u16, b: u16)
     if row.len() <= i {
         return;
     }
-    if judge::birth_of(births, b) <= judge::birth_of(births, a) {
+    if order::entry(births, b) <= order::entry(births, a) {
         return;
     }
     if row[i] <= b {

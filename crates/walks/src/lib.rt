@@ -35,17 +35,6 @@ pub fn unknown(n: u16, switch: u16, tree: u16) -> bool
     3 < tree
 }
 
-// The entry of switch v, and 0 past the end.
-pub fn entry(row: &[u16], v: u16) -> u16
-    ensures { λ r. ⌜ r ≡ at (now (row .entry)) v ⌝ }
-{
-    let i = v as usize;
-    if i < row.len() {
-        return row[i];
-    }
-    0
-}
-
 // The links from v to the root, at most the limit: one less than the walk has switches.
 fn links_left(row: &[u16], root: u16, v: u16, limit: u16) -> u16
     ensures { λ r. ⌜ suc r ≡ length (walkBy root (at (now (row .entry))) limit v) ⌝ }
@@ -56,7 +45,7 @@ fn links_left(row: &[u16], root: u16, v: u16, limit: u16) -> u16
         if x == root {
             return k;
         }
-        x = entry(row, x);
+        x = order::entry(row, x);
         k += 1;
     }
     k
@@ -71,7 +60,7 @@ fn write_walk(row: &[u16], v: u16, left: u16, out: &mut [u16])
     if left == 0 {
         return;
     }
-    let next = entry(row, v);
+    let next = order::entry(row, v);
     write_walk(row, next, left - 1, &mut out[1..]);
 }
 

@@ -7,14 +7,14 @@ use Rattle.tables.proofs.lower.Tie as tie
 returns : tie.Need-returns
 returns c = lowered-outside (c .before .before .before .args .row .now) (c .before .before .before .args .births .now) (c .before .before .before .args .a) (c .before .before .before .args .b) (c .if1 .taken)
 
-birth-of-requires : tie.Need-birth-of-requires
-birth-of-requires c κs = search needs
+entry-requires : tie.Need-entry-requires
+entry-requires c κs = search needs
 
-birth-of-requires-2 : tie.Need-birth-of-requires-2
-birth-of-requires-2 c κs = search needs
+entry-requires-2 : tie.Need-entry-requires-2
+entry-requires-2 c κs = search needs
 
 returns-2 : tie.Need-returns-2
-returns-2 c = lowered-elder (c .before .before .before .before .before .before .args .row .now) (c .before .before .before .before .before .before .args .births .now) (c .before .before .before .before .before .before .args .a) (c .before .before .before .before .before .before .args .b) (c .before .before .birth-of .ensures) (c .before .birth-of2 .ensures) (omega (arith, c .if2 .taken))
+returns-2 c = lowered-elder (c .before .before .before .before .before .before .args .row .now) (c .before .before .before .before .before .before .args .births .now) (c .before .before .before .before .before .before .args .a) (c .before .before .before .before .before .before .args .b) (c .before .before .entry .ensures) (c .before .entry2 .ensures) (omega (arith, c .if2 .taken))
 
 mul-if3 : tie.Need-mul-if3
 mul-if3 c = search needs
@@ -35,15 +35,15 @@ same-length : tie.Need-same-length
 same-length c = search needs
 
 returns-4 : tie.Need-returns-4
-returns-4 c = lowered-to (c .before .before .before .before .before .before .before .before .args .row .now) (c .before .before .before .before .before .before .before .before .args .births .now) (c .before .before .before .before .before .before .before .before .args .a) (c .before .before .before .before .before .before .before .before .args .b) (c .before .before .before .before .birth-of .ensures) (c .before .before .before .birth-of2 .ensures) (c .before .before .if2 .left) (c .if3 .left)
+returns-4 c = lowered-to (c .before .before .before .before .before .before .before .before .args .row .now) (c .before .before .before .before .before .before .before .before .args .births .now) (c .before .before .before .before .before .before .before .before .args .a) (c .before .before .before .before .before .before .before .before .args .b) (c .before .before .before .before .entry .ensures) (c .before .before .before .entry2 .ensures) (c .before .before .if2 .left) (c .if3 .left)
 
 pub lower-spec : {M : Type 1} → statement M
 lower-spec =
     tie.close
     (tie.spec
     returns
-    birth-of-requires
-    birth-of-requires-2
+    entry-requires
+    entry-requires-2
     returns-2
     mul-if3
     slice-read-if3

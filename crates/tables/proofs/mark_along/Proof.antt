@@ -1,12 +1,13 @@
 use Prim.Native.Nat.{ℕ, suc, pred, _≤_, _-_}
-use mathlib.Core.Path.{_≡_, refl, sym, ap, _∙_}
+use mathlib.Core.Path.{_≡_, refl, ap, _∙_}
 use native.Mathlib.Omega.{arith}
 use native.Mathlib.Numerals.{add-one}
 use lib.ListN.{length}
 use Rattle.mondschein.specs.Network.{at, linkOf}
 use Rattle.network.specs.Load.{tableOf}
 use Rattle.tables.specs.Tables.{assigned}
-use Rattle.tables.proofs.Steps.{assigned-keeps, assigned-more}
+use Rattle.tables.proofs.Assigned.{assigned-length}
+use Rattle.tables.proofs.Steps.{assigned-more}
 use borrow.Author.Needs.{needs}
 use Rattle.tables.proofs.mark_along.Statement.{statement}
 use Rattle.tables.proofs.mark_along.Tie as tie
@@ -71,7 +72,7 @@ loop-again c =
 
 -- src/lib.rt:36:1
 same-length : tie.Need-same-length Inv-loop μ-loop
-same-length c = ap length (c .before .loop .inv .1) ∙ assigned-keeps _ _ _ _
+same-length c = ap length (c .before .loop .inv .1) ∙ assigned-length _ _ _ _
 
 -- src/lib.rt:36:1
 returns : tie.Need-returns Inv-loop μ-loop

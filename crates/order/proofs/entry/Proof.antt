@@ -1,8 +1,8 @@
 use mathlib.Core.Path.{sym}
 use lib.ListN.{List·getD-eq-default}
 use borrow.Author.Needs.{needs}
-use Rattle.walks.proofs.entry.Statement.{statement}
-use Rattle.walks.proofs.entry.Tie as tie
+use Rattle.order.proofs.entry.Statement.{statement}
+use Rattle.order.proofs.entry.Tie as tie
 
 mul-result : tie.Need-mul-result
 mul-result c = search needs

@@ -2,8 +2,8 @@ use Prim.Native.Nat.{_≤_, _-_}
 use native.Mathlib.Omega.{arith}
 use lib.ListN.{length}
 use borrow.Author.Needs.{needs}
-use Rattle.closed_cards.proofs.write_list.Statement.{statement}
-use Rattle.closed_cards.proofs.write_list.Tie as tie
+use Rattle.example.proofs.write_list.Statement.{statement}
+use Rattle.example.proofs.write_list.Tie as tie
 
 abbrev Inv-loop : tie.InvT-loop
 Inv-loop list count i₀ t4 i = i ≤ length list
