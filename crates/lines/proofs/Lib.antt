@@ -1,0 +1,5 @@
+pub mod Decimals
+pub mod Parts
+pub mod EarNumbers
+pub mod ReadExactly
+pub mod Places
