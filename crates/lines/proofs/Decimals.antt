@@ -1,8 +1,8 @@
 -- Laws of numbers in decimal: one digit, one digit more, and how many there are at most.
 -- A number of two digits or more is a tenth of it and a last digit.
-use mathlib.Core.Path.{_≡_, refl, sym, ap, _∙_}
+use mathlib.Core.Path.{_≡_, refl, sym, _∙_}
 use mathlib.Core.Logic.{⊎-elim}
-use mathlib.Core.List.{List, [], _∷_, _++_}
+use mathlib.Core.List.{[], _∷_, _++_}
 use Prim.Native.Nat.{ℕ, zero, suc, _+_, _*_, _/_, _%_, _≤_, _<_}
 use native.Mathlib.Omega.{arith}
 use lib.ListN.{length, length-append}
@@ -42,3 +42,10 @@ decimal-more v d h g =
     let q : (v * 10 + d) / 10 ≡ v = omega arith in
     let r : (v * 10 + d) % 10 ≡ d = omega arith in
     decimal-tenth (v * 10 + d) (omega arith) ∙ rw (q, r)
+
+pub decimal-some : (n : ℕ) → 1 ≤ length (decimal n)
+decimal-some n =
+    ⊎-elim
+    (λ (l : n < 10). rw (decimal-digit n l) (omega arith))
+    (λ (l : 10 ≤ n). rw (decimal-tenth n l, length-append (decimal (n / 10)) ((48 + n % 10) ∷ [])) (omega arith))
+    (less? n 10)

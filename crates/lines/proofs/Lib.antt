@@ -3,3 +3,4 @@ pub mod Parts
 pub mod EarNumbers
 pub mod ReadExactly
 pub mod Places
+pub mod Steps

@@ -1,18 +1,17 @@
 -- Laws of the parts of a line: what is read where a part stands, and what stands where a part was read.
 -- A part was read where something is left after it.
 use mathlib.Core.Path.{_≡_, refl, sym, ap, _∙_}
-use mathlib.Core.Logic.{_⊎_, inl, inr, ⊎-elim}
+use mathlib.Core.Logic.{⊎-elim}
 use mathlib.Core.Bool.{Bool, true, false, cond}
-use mathlib.Core.List.{List, [], _∷_, _++_, append-assoc}
+use mathlib.Core.List.{List, [], _∷_, _++_}
 use Prim.Native.Nat.{ℕ, zero, suc, _+_, _-_, _*_, _/_, _%_, _≤_, _<_}
 use native.Mathlib.Omega.{arith}
 use lib.Dec.{eqb, ltb}
-use lib.ListN.{length}
 use lib.Seq.{append-snoc}
 use borrow.Author.Tests.{lt-ltb, le-ltb, ltb-false, eq-eqb, ne-eqb, eqb-true, eqb-false}
-use Rattle.mondschein.proofs.Logic.{which, clash, less?}
+use Rattle.mondschein.proofs.Logic.{clash, less?}
 use Rattle.lines.specs.Writing.{decimal, decimalIn}
-use Rattle.lines.specs.Reading.{after, more, ends, Taken, nothing, digits, number, spacedNumber, namedNumber}
+use Rattle.lines.specs.Reading.{after, more, ends, Taken, digits, number, spacedNumber, namedNumber}
 use Rattle.lines.proofs.Decimals.{decimal-digit, decimal-tenth, decimal-more}
 
 -- a property of either choice

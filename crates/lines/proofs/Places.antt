@@ -1,6 +1,6 @@
 -- Laws of the parts of a line in the code's terms: what is left from a place on, one byte further at a time.
 -- A place at the end of the bytes leaves nothing.
-use mathlib.Core.Path.{_≡_, refl, sym, ap, _∙_}
+use mathlib.Core.Path.{_≡_}
 use mathlib.Core.Bool.{true, false}
 use mathlib.Core.List.{List, [], _∷_}
 use Prim.Native.Nat.{ℕ, suc, _+_, _-_, _*_, _≤_, _<_}
@@ -9,7 +9,7 @@ use native.Mathlib.Omega.{arith}
 use lib.Dec.{eqb, ltb}
 use lib.ListN.{length, getD, drop, drop-of-length-le}
 use lib.Seq.{drop-cons, drop-length}
-use Rattle.lines.specs.Reading.{after, ends, Taken, nothing, digits, number, spacedNumber, namedNumber, TakenPair, pairNumbers}
+use Rattle.lines.specs.Reading.{after, ends, Taken, nothing, digits, number, spacedNumber, namedNumber, pairNumbers}
 
 pub after-short : (w s : List ℕ) (k at : ℕ) → k < length w → length s ≤ at → drop (length s) s ≡ after (drop k w) (drop at s)
 unfolding after

@@ -1,7 +1,7 @@
 -- Document 01, "Lines of threeways": which form the bytes of a line are read as, part by part from the left, and the statement that
 -- a line is read as a form exactly when it is its writing. A part that does not stand where it must leaves nothing to read on.
 use mathlib.Core.Path.{_≡_}
-use mathlib.Core.Bool.{Bool, true, false, _&&_, cond}
+use mathlib.Core.Bool.{Bool, true, false, cond}
 use mathlib.Core.List.{List, [], _∷_}
 use mathlib.Core.Option.{Option, none, some}
 use Prim.Native.Nat.{ℕ, zero, suc, _+_, _-_, _*_, _≤_}

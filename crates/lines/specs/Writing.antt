@@ -2,7 +2,7 @@
 -- Bytes are ASCII: 10 is the line feed, 32 the space, 40 and 41 the brackets, 48 the digit 0.
 use mathlib.Core.Bool.{cond}
 use mathlib.Core.List.{List, [], _∷_, _++_, map}
-use Prim.Native.Nat.{ℕ, zero, suc, _+_, _/_, _%_, _≤_}
+use Prim.Native.Nat.{ℕ, zero, suc, _+_, _/_, _%_}
 use lib.Dec.{ltb}
 
 -- net

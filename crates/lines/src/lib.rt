@@ -1,11 +1,12 @@
 // Lines of threeways: the form of a line is read from its bytes, and the replies are written.
 // A place is an index into the bytes; a part that does not stand where it must leads to their end.
 ghost use mathlib.Core.Path.{_≡_};
-ghost use mathlib.Core.List.{[], _∷_};
+ghost use mathlib.Core.Bool.{cond};
 ghost use Prim.Native.Nat.{_≤_};
 ghost use lib.ListN.{length, drop};
-ghost use Rattle.lines.specs.Reading.{after, ends, nothing, digits, number, spacedNumber, namedNumber, pairNumbers, afterWord};
-ghost use Rattle.lines.specs.Line.{taken, takenPair};
+ghost use Rattle.lines.specs.Writing.{EAR};
+ghost use Rattle.lines.specs.Reading.{after, ends, nothing, digits, number, spacedNumber, namedNumber, pairNumbers, earNumbers, afterWord, netForm, earForm, bareForms, otherForms, anyForm};
+ghost use Rattle.lines.specs.Line.{taken, takenPair, takenNumbers, readInto, over, told, lineRead};
 
 // The words of document 01.
 pub const NET: [u8; 3] = *b"net";
@@ -56,6 +57,12 @@ struct Number {
 struct Pair {
     a: u16,
     b: u16,
+    next: usize,
+}
+
+// Numbers that were read into a slice: their count, and the place after them.
+struct Numbers {
+    count: u16,
     next: usize,
 }
 
@@ -190,4 +197,120 @@ fn after_word(bytes: &[u8], word: &[u8]) -> usize
 {
     let open = after(bytes, 0, b"(");
     after(bytes, open, word)
+}
+
+// The form, where the closing bracket stands at a place and nothing after it.
+fn whole(bytes: &[u8], at: usize, form: Form) -> Form
+    ensures { λ r. ⌜ r ≡ cond (ends (drop at (now (bytes .entry)))) form Form.Unread ⌝ }
+{
+    if ends(bytes, at) {
+        return form;
+    }
+    Form::Unread
+}
+
+// The form that a word without numbers begins.
+fn bare_forms(bytes: &[u8]) -> Form
+    ensures { λ r. ⌜ r ≡ told (bareForms (now (bytes .entry))) ⌝ }
+{
+    let open = after_word(bytes, &OPEN);
+    if open < bytes.len() {
+        return whole(bytes, open, Form::Open);
+    }
+    let close = after_word(bytes, &CLOSE);
+    if close < bytes.len() {
+        return whole(bytes, close, Form::Close);
+    }
+    let clear = after_word(bytes, &CLEAR);
+    whole(bytes, clear, Form::Clear)
+}
+
+// The form of a line whose word net ends at a place.
+fn net_form(bytes: &[u8], at: usize) -> Form
+    ensures { λ r. ⌜ r ≡ told (netForm (drop at (now (bytes .entry)))) ⌝ }
+{
+    let n = number_at(bytes, at);
+    let root = named_at(bytes, n.next, &ROOT);
+    let first = named_at(bytes, root.next, &FIRST);
+    let last = named_at(bytes, first.next, &LAST);
+    let form = Form::Net(n.value, root.value, first.value, last.value);
+    whole(bytes, last.next, form)
+}
+
+// The form that a word other than ear begins.
+fn other_forms(bytes: &[u8]) -> Form
+    ensures { λ r. ⌜ r ≡ told (otherForms (now (bytes .entry))) ⌝ }
+{
+    let link = after_word(bytes, &LINK);
+    if link < bytes.len() {
+        let pair = pair_at(bytes, link);
+        return whole(bytes, pair.next, Form::Link(pair.a, pair.b));
+    }
+    let walk = after_word(bytes, &WALK);
+    if walk < bytes.len() {
+        let pair = pair_at(bytes, walk);
+        return whole(bytes, pair.next, Form::Walk(pair.a, pair.b));
+    }
+    let net = after_word(bytes, &NET);
+    if net < bytes.len() {
+        return net_form(bytes, net);
+    }
+    bare_forms(bytes)
+}
+
+// Writes the numbers that stand at a place, each after one space, at the start of the slice.
+fn numbers_at(bytes: &[u8], at: usize, numbers: &mut [u16]) -> Numbers
+    requires { ⌜ (length (now bytes) ≤ 6144) × (3072 ≤ length (now numbers)) ⌝ }
+    ensures { λ r. ⌜ takenNumbers (now (bytes .entry)) r (now (numbers .exit)) ≡ readInto (earNumbers (drop at (now (bytes .entry)))) (now (numbers .entry)) ⌝ }
+{
+    let mut next = at;
+    let mut k = 0;
+    loop {
+        let n = number_at(bytes, next);
+        if bytes.len() <= n.next {
+            return Numbers {
+                count: k as u16,
+                next,
+            };
+        }
+        numbers[k] = n.value;
+        k += 1;
+        next = n.next;
+    }
+}
+
+// The form of a line whose word ear ends at a place; the numbers that follow it go to the start of the slice.
+fn ear_form(bytes: &[u8], at: usize, numbers: &mut [u16]) -> Form
+    requires { ⌜ (length (now bytes) ≤ 6144) × (3072 ≤ length (now numbers)) ⌝ }
+    ensures { λ r. ⌜ (r ≡ told (earForm (drop at (now (bytes .entry))))) × (now (numbers .exit) ≡ over (earNumbers (drop at (now (bytes .entry))) .list) (now (numbers .entry))) ⌝ }
+{
+    let n = numbers_at(bytes, at, numbers);
+    whole(bytes, n.next, Form::Ear(n.count))
+}
+
+// The form that a line's word begins.
+fn any_form(bytes: &[u8], numbers: &mut [u16]) -> Form
+    requires { ⌜ (length (now bytes) ≤ 6144) × (3072 ≤ length (now numbers)) ⌝ }
+    ensures { λ r. ⌜ (r ≡ told (anyForm (now (bytes .entry)))) × (now (numbers .exit) ≡ over (earNumbers (afterWord EAR (now (bytes .entry))) .list) (now (numbers .entry))) ⌝ }
+{
+    let ear = after_word(bytes, &EAR);
+    if ear < bytes.len() {
+        return ear_form(bytes, ear, numbers);
+    }
+    other_forms(bytes)
+}
+
+// Reads a line of at most 6,144 bytes; the numbers of an ear go to the start of the slice, which has room for 3,072.
+pub fn read_line(number: u16, bytes: &[u8], numbers: &mut [u16]) -> Line
+    requires { ⌜ 3072 ≤ length (now numbers) ⌝ }
+    ensures { λ r. ⌜ (r ≡ lineRead number (now (bytes .entry)) (now (numbers .entry)) .line) × (now (numbers .exit) ≡ lineRead number (now (bytes .entry)) (now (numbers .entry)) .numbers) ⌝ }
+{
+    if 6144 < bytes.len() {
+        return Line {
+            number,
+            form: Form::Unread,
+        };
+    }
+    let form = any_form(bytes, numbers);
+    Line { number, form }
 }

@@ -1,19 +1,13 @@
-use Prim.Native.Nat.{ℕ, suc, _≤_, _<_, _+_, _-_, _*_}
-use mathlib.Core.Path.{_≡_, refl, sym, ap, _∙_}
-use mathlib.Core.Logic.{⊎-elim}
-use mathlib.Core.Bool.{true, false}
-use mathlib.Core.List.{List, [], _∷_, _++_}
+use Prim.Native.Nat.{_-_}
+use mathlib.Core.Path.{_≡_, sym, _∙_}
 use native.Mathlib.Omega.{arith}
-use native.Mathlib.Numerals.{add-one}
-use borrow.Author.Tests.{le-leb, lt-leb, lt-ltb, le-ltb, eq-eqb, ne-eqb}
-use lib.ListN.{length, getD, set, take, drop, replicate}
+use borrow.Author.Tests.{eq-eqb, ne-eqb}
+use lib.ListN.{length, drop}
 use borrow.Author.Needs.{needs}
 use Rattle.lines.specs.Reading.{after}
 use Rattle.lines.proofs.Places.{after-short, after-other, after-more, after-all}
 use Rattle.lines.proofs.after.Statement.{statement}
 use Rattle.lines.proofs.after.Tie as tie
-use Rattle.lines.proofs.after.Reads as reads
-use Rattle.lines.proofs.after.Lts as lts
 
 abbrev Inv-loop : tie.InvT-loop
 Inv-loop bytes at part next₀ k₀ next k = (after part (drop at bytes) ≡ after (drop k part) (drop next bytes))
@@ -21,43 +15,33 @@ Inv-loop bytes at part next₀ k₀ next k = (after part (drop at bytes) ≡ aft
 abbrev μ-loop : tie.MeasureT-loop
 μ-loop bytes at part next₀ k₀ next k = length part - k
 
--- src/lib.rt:61:5
 loop-holds : tie.Need-loop-holds Inv-loop μ-loop
 loop-holds c = search needs
 
--- src/lib.rt:63:13
 returns : tie.Need-returns Inv-loop μ-loop
 returns c = after-short _ _ (c .before .before .loop .k) (c .before .before .loop .next) (c .before .loop-test .taken) (c .if1 .taken) ∙ sym (c .before .before .loop .inv)
 
--- src/lib.rt:65:12
 shared-slice-read-if2 : tie.Need-shared-slice-read-if2 Inv-loop μ-loop
 shared-slice-read-if2 c = search needs
 
--- src/lib.rt:65:27
 shared-slice-read-if2-2 : tie.Need-shared-slice-read-if2-2 Inv-loop μ-loop
 shared-slice-read-if2-2 c = search needs
 
--- src/lib.rt:66:13
 returns-2 : tie.Need-returns-2 Inv-loop μ-loop
 returns-2 c = after-other _ _ (c .before .before .before .before .before .loop .k) (c .before .before .before .before .before .loop .next) (c .before .before .before .before .loop-test .taken) (omega arith) (ne-eqb _ _ (c .if2 .taken)) ∙ sym (c .before .before .before .before .before .loop .inv)
 
--- src/lib.rt:68:9
 add-next : tie.Need-add-next Inv-loop μ-loop
 add-next c = search needs
 
--- src/lib.rt:69:9
 add-k : tie.Need-add-k Inv-loop μ-loop
 add-k c = search needs
 
--- src/lib.rt:61:5
 loop-less : tie.Need-loop-less Inv-loop μ-loop
 loop-less c = search needs
 
--- src/lib.rt:61:5
 loop-again : tie.Need-loop-again Inv-loop μ-loop
 loop-again c = c .before .before .before .before .before .loop .inv ∙ after-more _ _ (c .before .before .before .before .before .loop .k) (c .before .before .before .before .before .loop .next) (c .before .before .before .before .loop-test .taken) (omega arith) (eq-eqb _ _ (c .if2 .left))
 
--- src/lib.rt:56:1
 returns-3 : tie.Need-returns-3 Inv-loop μ-loop
 returns-3 c = sym (c .before .loop .inv ∙ after-all _ _ (c .before .loop .k) (c .loop-test .left))
 

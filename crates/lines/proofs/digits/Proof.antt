@@ -1,20 +1,12 @@
-use Prim.Native.Nat.{ℕ, suc, _≤_, _<_, _+_, _-_, _*_}
-use mathlib.Core.Path.{_≡_, refl, sym, ap, _∙_}
-use mathlib.Core.Logic.{⊎-elim}
-use mathlib.Core.Bool.{true, false}
-use mathlib.Core.List.{List, [], _∷_, _++_}
-use native.Mathlib.Omega.{arith}
-use native.Mathlib.Numerals.{add-one}
-use borrow.Author.Tests.{le-leb, lt-leb, lt-ltb, le-ltb, eq-eqb, ne-eqb}
-use lib.ListN.{length, getD, set, take, drop, replicate}
+use Prim.Native.Nat.{_≤_, _-_}
+use mathlib.Core.Path.{_≡_, sym, _∙_}
+use borrow.Author.Tests.{lt-ltb, le-ltb}
+use lib.ListN.{length, drop}
 use borrow.Author.Needs.{needs}
 use Rattle.lines.specs.Reading.{digits}
 use Rattle.lines.proofs.Places.{digits-end, digits-low, digits-high, digits-large, digits-next}
 use Rattle.lines.proofs.digits.Statement.{statement}
 use Rattle.lines.proofs.digits.Tie as tie
-use Rattle.lines.proofs.digits.Reads as reads
-use Rattle.lines.proofs.digits.Lts as lts
-use Rattle.lines.proofs.nothing.Reads as nothing-reads
 
 abbrev Inv-loop : tie.InvT-loop
 Inv-loop bytes at first value₀ next₀ value next = (value ≤ 65535) × (digits first (drop at bytes) ≡ digits value (drop next bytes))
@@ -22,67 +14,51 @@ Inv-loop bytes at first value₀ next₀ value next = (value ≤ 65535) × (digi
 abbrev μ-loop : tie.MeasureT-loop
 μ-loop bytes at first value₀ next₀ value next = length bytes - next
 
--- src/lib.rt:104:5
 loop-holds : tie.Need-loop-holds Inv-loop μ-loop
 loop-holds c = search needs
 
--- src/lib.rt:105:17
 shared-slice-read-x : tie.Need-shared-slice-read-x Inv-loop μ-loop
 shared-slice-read-x c = search needs
 
--- src/lib.rt:108:24
 cast-t11 : tie.Need-cast-t11 Inv-loop μ-loop
 cast-t11 c = search needs
 
--- src/lib.rt:107:13
 returns : tie.Need-returns Inv-loop μ-loop
 returns c = digits-low _ _ _ (c .before .before .loop-test .taken) (lt-ltb _ _ (c .if1 .taken)) ∙ sym (c .before .before .before .loop .inv .1)
 
--- src/lib.rt:114:24
 cast-t12 : tie.Need-cast-t12 Inv-loop μ-loop
 cast-t12 c = search needs
 
--- src/lib.rt:113:13
 returns-2 : tie.Need-returns-2 Inv-loop μ-loop
 returns-2 c = digits-high _ _ _ (c .before .before .before .loop-test .taken) (le-ltb _ _ (c .before .if1 .left)) (lt-ltb _ _ (c .if2 .taken)) ∙ sym (c .before .before .before .before .loop .inv .1)
 
--- src/lib.rt:118:17
 mul-value : tie.Need-mul-value Inv-loop μ-loop
 mul-value c = search needs
 
--- src/lib.rt:118:30
 cast-value : tie.Need-cast-value Inv-loop μ-loop
 cast-value c = search needs
 
--- src/lib.rt:118:17
 add-value : tie.Need-add-value Inv-loop μ-loop
 add-value c = search needs
 
--- src/lib.rt:120:13
 nothing-requires : tie.Need-nothing-requires Inv-loop μ-loop
 nothing-requires c κs = search needs
 
--- src/lib.rt:120:13
 returns-3 : tie.Need-returns-3 Inv-loop μ-loop
 returns-3 c = c .nothing .ensures ∙ digits-large _ _ _ (c .before .before .before .before .before .loop-test .taken) (le-ltb _ _ (c .before .before .before .if1 .left)) (le-ltb _ _ (c .before .before .if2 .left)) (lt-ltb _ _ (c .before .if3 .taken)) ∙ sym (c .before .before .before .before .before .before .loop .inv .1)
 
--- src/lib.rt:122:9
 add-next : tie.Need-add-next Inv-loop μ-loop
 add-next c = search needs
 
--- src/lib.rt:104:5
 loop-less : tie.Need-loop-less Inv-loop μ-loop
 loop-less c = search needs
 
--- src/lib.rt:104:5
 loop-again : tie.Need-loop-again Inv-loop μ-loop
 loop-again c = (search needs, c .before .before .before .before .before .loop .inv .1 ∙ digits-next _ _ _ (c .before .before .before .before .loop-test .taken) (le-ltb _ _ (c .before .before .if1 .left)) (le-ltb _ _ (c .before .if2 .left)) (le-ltb _ _ (c .if3 .left)))
 
--- src/lib.rt:125:16
 cast-t15 : tie.Need-cast-t15 Inv-loop μ-loop
 cast-t15 c = search needs
 
--- src/lib.rt:98:1
 returns-4 : tie.Need-returns-4 Inv-loop μ-loop
 returns-4 c = digits-end _ _ _ (c .loop-test .left) ∙ sym (c .before .loop .inv .1)
 
