@@ -49,3 +49,6 @@ decimal-some n =
     (λ (l : n < 10). rw (decimal-digit n l) (omega arith))
     (λ (l : 10 ≤ n). rw (decimal-tenth n l, length-append (decimal (n / 10)) ((48 + n % 10) ∷ [])) (omega arith))
     (less? n 10)
+
+pub tenth-length : (n : ℕ) → 10 ≤ n → length (decimal n) ≡ length (decimal (n / 10)) + 1
+tenth-length n l = rw (decimal-tenth n l, length-append (decimal (n / 10)) ((48 + n % 10) ∷ []))

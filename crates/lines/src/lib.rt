@@ -2,11 +2,12 @@
 // A place is an index into the bytes; a part that does not stand where it must leads to their end.
 ghost use mathlib.Core.Path.{_≡_};
 ghost use mathlib.Core.Bool.{cond};
-ghost use Prim.Native.Nat.{_≤_};
+ghost use Prim.Native.Nat.{_+_, _≤_};
 ghost use lib.ListN.{length, drop};
-ghost use Rattle.lines.specs.Writing.{EAR};
+ghost use Rattle.lines.specs.Writing.{EAR, decimal};
 ghost use Rattle.lines.specs.Reading.{after, ends, nothing, digits, number, spacedNumber, namedNumber, pairNumbers, earNumbers, afterWord, netForm, earForm, bareForms, otherForms, anyForm};
 ghost use Rattle.lines.specs.Line.{taken, takenPair, takenNumbers, readInto, over, told, lineRead};
+ghost use Rattle.lines.specs.Replies.{Wrote};
 
 // The words of document 01.
 pub const NET: [u8; 3] = *b"net";
@@ -313,4 +314,33 @@ pub fn read_line(number: u16, bytes: &[u8], numbers: &mut [u16]) -> Line
     }
     let form = any_form(bytes, numbers);
     Line { number, form }
+}
+
+// Writes bytes from index at on, and gives the index after them.
+fn put(out: &mut [u8], at: usize, bytes: &[u8]) -> usize
+    requires { ⌜ at + length (now bytes) ≤ length (now out) ⌝ }
+    ensures { λ r. ⌜ Wrote at (now (bytes .entry)) (now (out .entry)) r (now (out .exit)) ⌝ }
+{
+    let mut next = at;
+    let mut k = 0;
+    while k < bytes.len() {
+        out[next] = bytes[k];
+        next += 1;
+        k += 1;
+    }
+    next
+}
+
+// Writes a number in decimal from index at on, and gives the index after it.
+fn put_number(out: &mut [u8], at: usize, n: u16) -> usize
+    requires { ⌜ at + length (decimal n) ≤ length (now out) ⌝ }
+    ensures { λ r. ⌜ Wrote at (decimal n) (now (out .entry)) r (now (out .exit)) ⌝ }
+{
+    if n < 10 {
+        out[at] = b'0' + n as u8;
+        return at + 1;
+    }
+    let next = put_number(out, at, n / 10);
+    out[next] = b'0' + (n % 10) as u8;
+    next + 1
 }
