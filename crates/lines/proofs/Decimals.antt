@@ -52,3 +52,16 @@ decimal-some n =
 
 pub tenth-length : (n : ℕ) → 10 ≤ n → length (decimal n) ≡ length (decimal (n / 10)) + 1
 tenth-length n l = rw (decimal-tenth n l, length-append (decimal (n / 10)) ((48 + n % 10) ∷ []))
+
+-- one digit more for ten times as many numbers
+more-digits : (m c : ℕ) → ((n : ℕ) → n < m → length (decimal n) ≤ c) → (n : ℕ) → n < m * 10 → length (decimal n) ≤ c + 1
+more-digits m c f n h =
+    ⊎-elim
+    (λ (l : n < 10). rw (decimal-digit n l) (omega arith))
+    (λ (l : 10 ≤ n). omega (arith, tenth-length n l, f (n / 10) (omega arith)))
+    (less? n 10)
+
+-- a 16-bit number has at most five digits
+pub decimal-short : (n : ℕ) → n ≤ 65535 → length (decimal n) ≤ 5
+decimal-short n h =
+    more-digits 10000 4 (more-digits 1000 3 (more-digits 100 2 (more-digits 10 1 (λ k l. rw (decimal-digit k l) (omega arith))))) n (omega arith)

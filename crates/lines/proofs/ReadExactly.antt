@@ -3,14 +3,14 @@
 use mathlib.Core.Path.{_≡_, refl, sym, ap, _∙_, subst}
 use mathlib.Core.Logic.{_⊎_, inl, inr, ⊎-elim}
 use mathlib.Core.Bool.{Bool, true, false, cond}
-use mathlib.Core.List.{List, [], _∷_, _++_, append-assoc, map}
+use mathlib.Core.List.{List, [], _∷_, _++_, append-assoc, append-nil, map}
 use mathlib.Core.Option.{Option, none, some}
 use Prim.Native.Nat.{ℕ, _≤_}
 use native.Mathlib.Omega.{arith}
 use lib.Dec.{ltb}
 use lib.ListN.{length}
 use borrow.Author.Tests.{le-ltb, ltb-false}
-use Rattle.lines.specs.Writing.{NET, ROOT, FIRST, LAST, LINK, OPEN, EAR, CLOSE, WALK, CLEAR, decimal, spaced, bracketed, Form, net, link, opening, ear, closing, walk, clearing, writing, numbersOf}
+use Rattle.lines.specs.Writing.{NET, ROOT, FIRST, LAST, LINK, OPEN, EAR, CLOSE, WALK, CLEAR, decimal, spaced, joined, bracketed, Form, net, link, opening, ear, closing, walk, clearing, writing, numbersOf}
 use Rattle.lines.specs.Reading.{after, more, ends, spacedNumber, namedNumber, earNumbers, afterWord, netForm, pairNumbers, pairForm, bareForm, earForm, bareForms, otherForms, anyForm, reading, Narrow, Writes, ReadExactly}
 use Rattle.lines.specs.Line.{begun, EarHeld}
 use Rattle.lines.proofs.Parts.{more-append, ends-bytes, after-bytes, spaced-bytes, spaced-part, namedBefore, named-bytes, named-part}
@@ -52,12 +52,12 @@ pair-bytes form s e =
     (a .value, b .value, p .1, first .0 ∙ ap (λ (l : List ℕ). 32 ∷ (decimal (a .value) ++ l)) (second .0 ∙ ap (λ (l : List ℕ). 32 ∷ (decimal (b .value) ++ l)) end), first .1, second .1)
 
 pair-writing : (word : List ℕ) (a b : ℕ) → bracketed (word ∷ decimal a ∷ decimal b ∷ []) ≡ 40 ∷ (word ++ (32 ∷ (decimal a ++ (32 ∷ (decimal b ++ (41 ∷ []))))))
-unfolding bracketed spaced
+unfolding joined bracketed spaced
 pair-writing word a b = simp append-assoc
 
 net-writing : (n root first last : ℕ) → writing (net n root first last)
     ≡ 40 ∷ (NET ++ (32 ∷ (decimal n ++ namedBefore ROOT root (namedBefore FIRST first (namedBefore LAST last (41 ∷ []))))))
-unfolding writing bracketed spaced
+unfolding writing joined bracketed spaced
 net-writing n root first last = simp append-assoc
 
 -- a word with two numbers was read
@@ -71,12 +71,12 @@ pair-read word s form w ns e =
 
 -- a word with no number was read
 bare-read : (word s : List ℕ) (form : Form) {f : Form} → writing form ≡ bracketed (word ∷ []) → numbersOf form ≡ [] → bareForm form (afterWord word s) ≡ some f → Form·of s f
-unfolding Narrow bracketed spaced
+unfolding Narrow joined bracketed spaced
 bare-read word s form w ns e =
     let p = passed (ends (afterWord word s)) e in
     let end = ends-bytes (afterWord word s) (p .0) in
     subst (Form·of s) (p .1)
-    (word-bytes word s (ap more end) ∙ ap (λ (l : List ℕ). 40 ∷ (word ++ l)) end ∙ sym w, rw ns tt)
+    (word-bytes word s (ap more end) ∙ ap (λ (l : List ℕ). 40 ∷ (word ++ l)) end ∙ sym (w ∙ ap (λ (l : List ℕ). 40 ∷ (l ++ (41 ∷ []))) (append-nil word)), rw ns tt)
 
 net-read : (s : List ℕ) {f : Form} → netForm (afterWord NET s) ≡ some f → Form·of s f
 unfolding netForm Narrow
@@ -104,7 +104,7 @@ net-read s e =
     )
 
 ear-read : (s : List ℕ) {f : Form} → earForm (afterWord EAR s) ≡ some f → Form·of s f
-unfolding writing bracketed
+unfolding writing joined bracketed
 ear-read s e =
     let rest = afterWord EAR s in
     let before = spaced (map decimal (earNumbers rest .list)) in
@@ -155,7 +155,7 @@ net-part n root first last (c, (r, (f, (l, w)))) =
 
 -- the writing of a form is read as the form
 form-part : (f : Form) → Narrow (numbersOf f) → anyForm (writing f) ≡ some f
-unfolding anyForm otherForms bareForms writing bracketed spaced after Narrow
+unfolding anyForm otherForms bareForms writing joined bracketed spaced after Narrow
 form-part (net n root first last) w = ap anyForm (net-writing n root first last) ∙ net-part n root first last w
 form-part (link a b) w = ap anyForm (pair-writing LINK a b) ∙ pair-part link a b (w .0) (w .1 .0)
 form-part opening w = refl
@@ -170,7 +170,7 @@ unfolding reading
 read-exactly s f = (read-bytes s f, λ w. rw (w .bytes, le-ltb 6144 (length (writing f)) (rw (w .bytes) at (w .short))) (form-part f (w .narrow)))
 
 pub ear-held : EarHeld
-unfolding begun writing bracketed after
+unfolding begun writing joined bracketed after
 ear-held s ns e =
     let w = read-bytes s (ear ns) e in
     let l : length (writing (ear ns)) ≤ 6144 = rw (w .bytes) at (w .short) in

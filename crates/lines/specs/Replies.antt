@@ -4,7 +4,7 @@ use mathlib.Core.Path.{_≡_}
 use mathlib.Core.List.{List, [], _∷_, _++_, map}
 use Prim.Native.Nat.{ℕ, _+_}
 use lib.ListN.{length, take, drop}
-use Rattle.lines.specs.Writing.{WALK, decimal, bracketed}
+use Rattle.lines.specs.Writing.{WALK, decimal, spaced, bracketed}
 
 -- opened
 abbrev pub OPENED : List ℕ
@@ -39,6 +39,10 @@ pub data Reply : Type 0 where
   walked : (switch tree : ℕ) (switches : List ℕ) → Reply
   cleared : Reply
   unread : (line : ℕ) → Reply
+
+-- the opening bracket, a word and numbers, each after one space
+abbrev pub head : List ℕ → List ℕ → List ℕ
+head word numbers = 40 ∷ (word ++ spaced (map decimal numbers))
 
 -- parts in brackets, and a line feed
 abbrev pub line : List (List ℕ) → List ℕ

@@ -59,10 +59,14 @@ unfoldable pub spaced : List (List ℕ) → List ℕ
 spaced [] = []
 spaced (p ∷ ps) = 32 ∷ (p ++ spaced ps)
 
--- parts in brackets, one space between
+-- parts, one space between
+unfoldable pub joined : List (List ℕ) → List ℕ
+joined [] = []
+joined (p ∷ ps) = p ++ spaced ps
+
+-- parts in brackets
 unfoldable pub bracketed : List (List ℕ) → List ℕ
-bracketed [] = 40 ∷ 41 ∷ []
-bracketed (p ∷ ps) = 40 ∷ (p ++ (spaced ps ++ (41 ∷ [])))
+bracketed ps = 40 ∷ (joined ps ++ (41 ∷ []))
 
 -- the forms of a line
 pub data Form : Type 0 where

@@ -2,12 +2,13 @@
 // A place is an index into the bytes; a part that does not stand where it must leads to their end.
 ghost use mathlib.Core.Path.{_≡_};
 ghost use mathlib.Core.Bool.{cond};
-ghost use Prim.Native.Nat.{_+_, _≤_};
+ghost use mathlib.Core.List.{_∷_, map};
+ghost use Prim.Native.Nat.{_+_, _*_, _≤_};
 ghost use lib.ListN.{length, drop};
-ghost use Rattle.lines.specs.Writing.{EAR, decimal};
+ghost use Rattle.lines.specs.Writing.{EAR, decimal, spaced, joined};
 ghost use Rattle.lines.specs.Reading.{after, ends, nothing, digits, number, spacedNumber, namedNumber, pairNumbers, earNumbers, afterWord, netForm, earForm, bareForms, otherForms, anyForm};
 ghost use Rattle.lines.specs.Line.{taken, takenPair, takenNumbers, readInto, over, told, lineRead};
-ghost use Rattle.lines.specs.Replies.{Wrote};
+ghost use Rattle.lines.specs.Replies.{head, line, reply, opened, new, refused, closed, walked, cleared, unread, Wrote};
 
 // The words of document 01.
 pub const NET: [u8; 3] = *b"net";
@@ -343,4 +344,114 @@ fn put_number(out: &mut [u8], at: usize, n: u16) -> usize
     let next = put_number(out, at, n / 10);
     out[next] = b'0' + (n % 10) as u8;
     next + 1
+}
+
+// Writes numbers from index at on, each after one space, and gives the index after them.
+fn put_spaced(out: &mut [u8], at: usize, numbers: &[u16]) -> usize
+    requires { ⌜ at + 6 * length (now numbers) ≤ length (now out) ⌝ }
+    ensures { λ r. ⌜ Wrote at (spaced (map decimal (now (numbers .entry)))) (now (out .entry)) r (now (out .exit)) × (r ≤ at + 6 * length (now (numbers .entry))) ⌝ }
+{
+    let mut next = at;
+    let mut k = 0;
+    while k < numbers.len() {
+        let space = put(out, next, b" ");
+        next = put_number(out, space, numbers[k]);
+        k += 1;
+    }
+    next
+}
+
+// Writes numbers from index at on, one space between, and gives the index after them.
+fn put_joined(out: &mut [u8], at: usize, numbers: &[u16]) -> usize
+    requires { ⌜ at + 6 * length (now numbers) ≤ length (now out) ⌝ }
+    ensures { λ r. ⌜ Wrote at (joined (map decimal (now (numbers .entry)))) (now (out .entry)) r (now (out .exit)) × (r ≤ at + 6 * length (now (numbers .entry))) ⌝ }
+{
+    if numbers.len() == 0 {
+        return at;
+    }
+    let next = put_number(out, at, numbers[0]);
+    put_spaced(out, next, &numbers[1..])
+}
+
+// Writes the opening bracket, a word and numbers, each after one space, and gives the index after them.
+fn put_head(out: &mut [u8], word: &[u8], numbers: &[u16]) -> usize
+    requires { ⌜ 1 + length (now word) + 6 * length (now numbers) ≤ length (now out) ⌝ }
+    ensures { λ r. ⌜ Wrote 0 (head (now (word .entry)) (now (numbers .entry))) (now (out .entry)) r (now (out .exit)) × (r ≤ 1 + length (now (word .entry)) + 6 * length (now (numbers .entry))) ⌝ }
+{
+    let open = put(out, 0, b"(");
+    let next = put(out, open, word);
+    put_spaced(out, next, numbers)
+}
+
+// Writes a line of a word and numbers at the start of the slice, and gives the count of its bytes.
+fn write_line(out: &mut [u8], word: &[u8], numbers: &[u16]) -> usize
+    requires { ⌜ 3 + length (now word) + 6 * length (now numbers) ≤ length (now out) ⌝ }
+    ensures { λ r. ⌜ (r ≡ length (line ((now (word .entry)) ∷ map decimal (now (numbers .entry))))) × (now (out .exit) ≡ over (line ((now (word .entry)) ∷ map decimal (now (numbers .entry)))) (now (out .entry))) ⌝ }
+{
+    let next = put_head(out, word, numbers);
+    put(out, next, b")\n")
+}
+
+// Writes the reply to an open that loads: switches and links.
+pub fn write_opened(out: &mut [u8], switches: u16, links: u16) -> usize
+    requires { ⌜ 32 ≤ length (now out) ⌝ }
+    ensures { λ r. ⌜ (r ≡ length (reply (opened switches links))) × (now (out .exit) ≡ over (reply (opened switches links)) (now (out .entry))) ⌝ }
+{
+    let numbers = [switches, links];
+    write_line(out, b"opened", &numbers)
+}
+
+// Writes the reply to an ear that is accepted: its number of new switches.
+pub fn write_new(out: &mut [u8], count: u16) -> usize
+    requires { ⌜ 32 ≤ length (now out) ⌝ }
+    ensures { λ r. ⌜ (r ≡ length (reply (new count))) × (now (out .exit) ≡ over (reply (new count)) (now (out .entry))) ⌝ }
+{
+    let numbers = [count];
+    write_line(out, b"new", &numbers)
+}
+
+// Writes the reply to a call that is refused: the refusal's number and its place.
+pub fn write_refused(out: &mut [u8], number: u8, place: u16) -> usize
+    requires { ⌜ 32 ≤ length (now out) ⌝ }
+    ensures { λ r. ⌜ (r ≡ length (reply (refused number place))) × (now (out .exit) ≡ over (reply (refused number place)) (now (out .entry))) ⌝ }
+{
+    let numbers = [number as u16, place];
+    write_line(out, b"refused", &numbers)
+}
+
+// Writes the reply to a close that succeeds.
+pub fn write_closed(out: &mut [u8]) -> usize
+    requires { ⌜ 32 ≤ length (now out) ⌝ }
+    ensures { λ r. ⌜ (r ≡ length (reply closed)) × (now (out .exit) ≡ over (reply closed) (now (out .entry))) ⌝ }
+{
+    put(out, 0, b"(closed)\n")
+}
+
+// Writes the reply to a clear.
+pub fn write_cleared(out: &mut [u8]) -> usize
+    requires { ⌜ 32 ≤ length (now out) ⌝ }
+    ensures { λ r. ⌜ (r ≡ length (reply cleared)) × (now (out .exit) ≡ over (reply cleared) (now (out .entry))) ⌝ }
+{
+    put(out, 0, b"(cleared)\n")
+}
+
+// Writes the reply to a line that is no form, or to a link too many: the number of the line.
+pub fn write_unread(out: &mut [u8], number: u16) -> usize
+    requires { ⌜ 32 ≤ length (now out) ⌝ }
+    ensures { λ r. ⌜ (r ≡ length (reply (unread number))) × (now (out .exit) ≡ over (reply (unread number)) (now (out .entry))) ⌝ }
+{
+    let numbers = [number];
+    write_line(out, b"unread", &numbers)
+}
+
+// Writes the reply to a walk: its switch, its tree and its switches.
+pub fn write_walk(out: &mut [u8], switch: u16, tree: u16, switches: &[u16]) -> usize
+    requires { ⌜ 22 + 6 * length (now switches) ≤ length (now out) ⌝ }
+    ensures { λ r. ⌜ (r ≡ length (reply (walked switch tree (now (switches .entry))))) × (now (out .exit) ≡ over (reply (walked switch tree (now (switches .entry)))) (now (out .entry))) ⌝ }
+{
+    let numbers = [switch, tree];
+    let next = put_head(out, &WALK, &numbers);
+    let inner = put(out, next, b" (");
+    let end = put_joined(out, inner, switches);
+    put(out, end, b"))\n")
 }

@@ -1,12 +1,10 @@
-use mathlib.Core.Path.{_≡_, sym, ap, _∙_}
-use mathlib.Core.List.{List}
 use native.Mathlib.Omega.{arith}
-use lib.ListN.{length, length-set}
+use lib.ListN.{length-set}
 use borrow.Author.Needs.{needs}
 use Rattle.lines.specs.Writing.{decimal}
 use Rattle.lines.proofs.Decimals.{decimal-digit, decimal-tenth, decimal-some, tenth-length}
 use Rattle.lines.proofs.Slices.{wrote-one, wrote-byte}
-use Prim.Native.Nat.{ℕ, _+_, _/_, _%_, _≤_, _<_}
+use Prim.Native.Nat.{ℕ, _+_, _/_, _%_, _<_}
 use borrow.Fn.Kinds.{In}
 use borrow.Fn.PlainCycle.{Measures, is, falls, and}
 use Rattle.lines.proofs.put_number.Reads as put-number
@@ -26,7 +24,6 @@ abbrev put-number-below : ℕ → In 1 put-number-kinds.ps
 put-number-below t =
     and 1 put-number-kinds.ps (falls 1 put-number-kinds.ps _<_ μ-put-number t) put-number.Pre
 
--- src/lib.rt:340:26
 put-number-cast-out :
     (t : ℕ) →
     put-number-lts.Need-cast-out
@@ -35,7 +32,6 @@ put-number-cast-out :
     put-number.Post
 put-number-cast-out t c = search needs
 
--- src/lib.rt:340:19
 put-number-add-out :
     (t : ℕ) →
     put-number-lts.Need-add-out
@@ -44,28 +40,24 @@ put-number-add-out :
     put-number.Post
 put-number-add-out t c = search needs
 
--- src/lib.rt:340:9
 put-number-slice-write-out : (t : ℕ) → put-number-lts.Need-slice-write-out (
   put-number-below t,
   put-number.Post,
 ) (put-number-at t) put-number.Post
 put-number-slice-write-out t c = omega (arith, decimal-some (c .before .before .args .n))
 
--- src/lib.rt:341:16
 put-number-add-result : (t : ℕ) → put-number-lts.Need-add-result (
   put-number-below t,
   put-number.Post,
 ) (put-number-at t) put-number.Post
 put-number-add-result t c = search needs
 
--- src/lib.rt:341:9
 put-number-same-length : (t : ℕ) → put-number-lts.Need-same-length (
   put-number-below t,
   put-number.Post,
 ) (put-number-at t) put-number.Post
 put-number-same-length t c = simp length-set
 
--- src/lib.rt:341:9
 put-number-returns :
     (t : ℕ) →
     put-number-lts.Need-returns
@@ -74,49 +66,42 @@ put-number-returns :
     put-number.Post
 put-number-returns t c = rw (decimal-digit (c .before .before .args .n) (c .if1 .taken)) (wrote-one (c .before .before .args .at) _ (c .before .before .args .out .now) (omega (arith, decimal-some (c .before .before .args .n))))
 
--- src/lib.rt:343:9
 put-number-put-number-requires : (t : ℕ) → put-number-lts.Need-put-number-requires (
   put-number-below t,
   put-number.Post,
 ) (put-number-at t) put-number.Post
 put-number-put-number-requires t c κs = (omega arith, omega (arith, tenth-length (c .before .before .before .args .n) (c .before .if1 .left)))
 
--- src/lib.rt:344:24
 put-number-cast-out-2 : (t : ℕ) → put-number-lts.Need-cast-out-2 (
   put-number-below t,
   put-number.Post,
 ) (put-number-at t) put-number.Post
 put-number-cast-out-2 t c = search needs
 
--- src/lib.rt:344:17
 put-number-add-out-2 : (t : ℕ) → put-number-lts.Need-add-out-2 (
   put-number-below t,
   put-number.Post,
 ) (put-number-at t) put-number.Post
 put-number-add-out-2 t c = search needs
 
--- src/lib.rt:344:5
 put-number-slice-write-out-2 : (t : ℕ) → put-number-lts.Need-slice-write-out-2 (
   put-number-below t,
   put-number.Post,
 ) (put-number-at t) put-number.Post
 put-number-slice-write-out-2 t c = omega (arith, tenth-length (c .before .before .before .before .before .before .args .n) (c .before .before .before .before .if1 .left), c .before .before .put-number .ensures .ended)
 
--- src/lib.rt:345:5
 put-number-add-result-2 : (t : ℕ) → put-number-lts.Need-add-result-2 (
   put-number-below t,
   put-number.Post,
 ) (put-number-at t) put-number.Post
 put-number-add-result-2 t c = omega (arith, tenth-length (c .before .before .before .before .before .before .args .n) (c .before .before .before .before .if1 .left), c .before .before .put-number .ensures .ended)
 
--- src/lib.rt:335:1
 put-number-same-length-2 : (t : ℕ) → put-number-lts.Need-same-length-2 (
   put-number-below t,
   put-number.Post,
 ) (put-number-at t) put-number.Post
 put-number-same-length-2 t c = simp length-set (c .before .before .put-number .kept .0)
 
--- src/lib.rt:335:1
 put-number-returns-2 : (t : ℕ) → put-number-lts.Need-returns-2 (
   put-number-below t,
   put-number.Post,

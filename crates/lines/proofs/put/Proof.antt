@@ -1,21 +1,13 @@
-use Prim.Native.Nat.{ℕ, suc, _≤_, _<_, _+_, _-_, _*_}
-use mathlib.Core.Path.{_≡_, refl, sym, ap, _∙_}
-use mathlib.Core.Logic.{⊎-elim}
-use mathlib.Core.Bool.{true, false}
-use mathlib.Core.List.{List, [], _∷_, _++_}
+use Prim.Native.Nat.{_≤_, _+_, _-_}
+use mathlib.Core.Path.{_≡_, refl}
 use native.Mathlib.Omega.{arith}
-use native.Mathlib.Numerals.{add-one}
-use borrow.Author.Tests.{le-leb, lt-leb, lt-ltb, le-ltb, eq-eqb, ne-eqb}
-use lib.ListN.{length, getD, set, take, drop, replicate}
+use lib.ListN.{length, take}
 use borrow.Author.Needs.{needs}
 use Rattle.lines.specs.Replies.{Wrote}
 use Rattle.lines.proofs.Slices.{wrote-none, wrote-next, wrote-all}
 use lib.ListN.{length-set}
-use lib.Seq.{take-suc}
 use Rattle.lines.proofs.put.Statement.{statement}
 use Rattle.lines.proofs.put.Tie as tie
-use Rattle.lines.proofs.put.Reads as reads
-use Rattle.lines.proofs.put.Lts as lts
 
 abbrev Inv-loop : tie.InvT-loop
 Inv-loop out₀ at bytes next₀ k₀ out next k = (k ≤ length bytes) × (next ≡ at + k) × (length out ≡ length out₀) × Wrote at (take k bytes) out₀ next out
@@ -23,42 +15,33 @@ Inv-loop out₀ at bytes next₀ k₀ out next k = (k ≤ length bytes) × (next
 abbrev μ-loop : tie.MeasureT-loop
 μ-loop out₀ at bytes next₀ k₀ out next k = length bytes - k
 
--- src/lib.rt:326:5
 loop-holds : tie.Need-loop-holds Inv-loop μ-loop
 loop-holds c = (search needs, omega arith, refl, wrote-none (c .args .at) (c .args .out .now))
 
--- src/lib.rt:327:21
 shared-slice-read-out : tie.Need-shared-slice-read-out Inv-loop μ-loop
 shared-slice-read-out c = search needs
 
--- src/lib.rt:327:9
 slice-write-out : tie.Need-slice-write-out Inv-loop μ-loop
 slice-write-out c = search needs
 
--- src/lib.rt:328:9
 add-next : tie.Need-add-next Inv-loop μ-loop
 add-next c = search needs
 
--- src/lib.rt:329:9
 add-k : tie.Need-add-k Inv-loop μ-loop
 add-k c = search needs
 
--- src/lib.rt:326:5
 loop-less : tie.Need-loop-less Inv-loop μ-loop
 loop-less c = search needs
 
--- src/lib.rt:326:5
 loop-again : tie.Need-loop-again Inv-loop μ-loop
 loop-again c =
     let l = c .before .before .loop in
     let a = c .before .before .before .args in
     (search needs, omega arith, simp length-set (l .inv .2), wrote-next (a .at) (a .bytes .now) (a .out .now) (l .next) (l .out) (l .k) (l .inv .3) (c .before .loop-test .taken) (omega arith) (omega arith))
 
--- src/lib.rt:320:1
 same-length : tie.Need-same-length Inv-loop μ-loop
 same-length c = c .before .loop .inv .2
 
--- src/lib.rt:320:1
 returns : tie.Need-returns Inv-loop μ-loop
 returns c = wrote-all (c .before .before .args .at) (c .before .before .args .bytes .now) (c .before .before .args .out .now) (c .before .loop .next) (c .before .loop .out) (c .before .loop .k) (c .before .loop .inv .3) (c .loop-test .left)
 
