@@ -1,14 +1,46 @@
 -- Laws of the numbers of an ear: what is read where numbers stand, each after one space, and what stands where they were read.
 -- Reading ends at the first place where no number stands.
 use mathlib.Core.Path.{_≡_, refl, sym, ap, _∙_}
+use mathlib.Core.Logic.{⊎-elim}
 use mathlib.Core.Bool.{true}
 use mathlib.Core.List.{List, [], _∷_, _++_, append-assoc, map}
 use Prim.Native.Nat.{ℕ, zero, suc, _≤_}
 use native.Mathlib.Omega.{arith}
 use lib.ListN.{length, length-append}
+use Rattle.mondschein.proofs.Logic.{which}
 use Rattle.lines.specs.Writing.{decimal, spaced}
 use Rattle.lines.specs.Reading.{after, more, Taken, number, spacedNumber, TakenList, numbersFrom, numbersIn, earNumbers, Narrow}
-use Rattle.lines.proofs.Parts.{cond-elim, spaced-bytes, spaced-part}
+use Rattle.lines.proofs.Parts.{cond-elim, spaced-bytes, spaced-part, number-shorter}
+
+none-after : (k : ℕ) → numbersIn k [] ≡ record { list = []; rest = [] }
+unfolding numbersIn after number
+none-after zero = refl
+none-after (suc k) = refl
+
+-- what stands after the first number matters only where there is one
+from-same : (s : List ℕ) (n : Taken) (t u : TakenList) → (more (n .rest) ≡ true → t ≡ u) → numbersFrom s n t ≡ numbersFrom s n u
+from-same s n t u f = ⊎-elim (λ m. ap (numbersFrom s n) (f m)) (λ m. rw m) (which (more (n .rest)))
+
+no-bytes : (s : List ℕ) → length s ≤ 0 → s ≡ []
+no-bytes [] h = refl
+no-bytes (x ∷ s) h = absurd (omega arith)
+
+-- steps that are not needed change nothing
+enough : (j k : ℕ) (s : List ℕ) → length s ≤ j → length s ≤ k → numbersIn j s ≡ numbersIn k s
+unfolding numbersIn
+enough zero k s h g = ap (numbersIn zero) (no-bytes s h) ∙ sym (none-after k) ∙ ap (numbersIn k) (sym (no-bytes s h))
+enough (suc j) zero s h g = ap (numbersIn (suc j)) (no-bytes s g) ∙ none-after (suc j) ∙ ap (numbersIn zero) (sym (no-bytes s g))
+enough (suc j) (suc k) s h g =
+    from-same s (spacedNumber s) _ _
+    (λ m. let l = number-shorter s m in enough j k (spacedNumber s .rest) (omega arith) (omega arith))
+
+-- the numbers that stand here are the first and those after it
+pub numbers-first : (s : List ℕ) → earNumbers s ≡ numbersFrom s (spacedNumber s) (earNumbers (spacedNumber s .rest))
+unfolding earNumbers numbersIn after number
+numbers-first [] = refl
+numbers-first (x ∷ s) =
+    from-same (x ∷ s) (spacedNumber (x ∷ s)) _ _
+    (λ m. let l = number-shorter (x ∷ s) m in enough (length s) (length (spacedNumber (x ∷ s) .rest)) (spacedNumber (x ∷ s) .rest) (omega arith) (omega arith))
 
 -- the numbers read stand there in their writing
 numbers-in-bytes : (k : ℕ) (s : List ℕ) → (s ≡ spaced (map decimal (numbersIn k s .list)) ++ numbersIn k s .rest) × Narrow (numbersIn k s .list)

@@ -7,12 +7,13 @@ use mathlib.Core.List.{List, [], _∷_, _++_}
 use Prim.Native.Nat.{ℕ, zero, suc, _+_, _-_, _*_, _/_, _%_, _≤_, _<_}
 use native.Mathlib.Omega.{arith}
 use lib.Dec.{eqb, ltb}
+use lib.ListN.{length, length-append}
 use lib.Seq.{append-snoc}
 use borrow.Author.Tests.{lt-ltb, le-ltb, ltb-false, eq-eqb, ne-eqb, eqb-true, eqb-false}
 use Rattle.mondschein.proofs.Logic.{clash, less?}
 use Rattle.lines.specs.Writing.{decimal, decimalIn}
 use Rattle.lines.specs.Reading.{after, more, ends, Taken, digits, number, spacedNumber, namedNumber}
-use Rattle.lines.proofs.Decimals.{decimal-digit, decimal-tenth, decimal-more}
+use Rattle.lines.proofs.Decimals.{decimal-digit, decimal-tenth, decimal-more, decimal-some}
 
 -- a property of either choice
 pub cond-elim : {A : Type 0} (P : A → Type 0) (b : Bool) {x y : A} → (b ≡ true → P x) → (b ≡ false → P y) → P (cond b x y)
@@ -119,6 +120,11 @@ pub spaced-bytes : (s : List ℕ) → more (spacedNumber s .rest) ≡ true → (
 spaced-bytes s m =
     let n = number-bytes (after (32 ∷ []) s) m in
     (after-bytes (32 ∷ []) s (ap more (n .0) ∙ more-append (decimal (spacedNumber s .value)) (spacedNumber s .rest) m) ∙ ap (λ (l : List ℕ). 32 ∷ l) (n .0), n .1)
+
+-- one space and a number take two bytes at least
+pub number-shorter : (s : List ℕ) → more (spacedNumber s .rest) ≡ true → length (spacedNumber s .rest) + 2 ≤ length s
+number-shorter s m =
+    omega (arith, simp length-append at (ap length (spaced-bytes s m .0)), decimal-some (spacedNumber s .value))
 
 pub spaced-part : (n x : ℕ) (s : List ℕ) → n ≤ 65535 → x < 48 → spacedNumber (32 ∷ (decimal n ++ (x ∷ s))) ≡ record { value = n; rest = x ∷ s }
 spaced-part n x s h l = ap number (after-part (32 ∷ []) (decimal n ++ (x ∷ s))) ∙ number-part n x s h l

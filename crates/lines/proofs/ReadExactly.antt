@@ -12,7 +12,6 @@ use lib.ListN.{length}
 use borrow.Author.Tests.{le-ltb, ltb-false}
 use Rattle.lines.specs.Writing.{NET, ROOT, FIRST, LAST, LINK, OPEN, EAR, CLOSE, WALK, CLEAR, decimal, spaced, joined, bracketed, Form, net, link, opening, ear, closing, walk, clearing, writing, numbersOf}
 use Rattle.lines.specs.Reading.{after, more, ends, spacedNumber, namedNumber, earNumbers, afterWord, netForm, pairNumbers, pairForm, bareForm, earForm, bareForms, otherForms, anyForm, reading, Narrow, Writes, ReadExactly}
-use Rattle.lines.specs.Line.{begun, EarHeld}
 use Rattle.lines.proofs.Parts.{more-append, ends-bytes, after-bytes, spaced-bytes, spaced-part, namedBefore, named-bytes, named-part}
 use Rattle.lines.proofs.EarNumbers.{numbers-bytes, numbers-part}
 
@@ -168,10 +167,3 @@ form-part clearing w = refl
 pub read-exactly : ReadExactly
 unfolding reading
 read-exactly s f = (read-bytes s f, λ w. rw (w .bytes, le-ltb 6144 (length (writing f)) (rw (w .bytes) at (w .short))) (form-part f (w .narrow)))
-
-pub ear-held : EarHeld
-unfolding begun writing joined bracketed after
-ear-held s ns e =
-    let w = read-bytes s (ear ns) e in
-    let l : length (writing (ear ns)) ≤ 6144 = rw (w .bytes) at (w .short) in
-    ap begun (w .bytes) ∙ rw (le-ltb 6144 (length (writing (ear ns))) l, numbers-part ns (w .narrow))

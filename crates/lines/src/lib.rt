@@ -5,9 +5,9 @@ ghost use mathlib.Core.Bool.{cond};
 ghost use mathlib.Core.List.{_∷_, map};
 ghost use Prim.Native.Nat.{_+_, _*_, _≤_};
 ghost use lib.ListN.{length, drop};
-ghost use Rattle.lines.specs.Writing.{EAR, decimal, spaced, joined};
+ghost use Rattle.lines.specs.Writing.{decimal, spaced, joined};
 ghost use Rattle.lines.specs.Reading.{after, ends, nothing, digits, number, spacedNumber, namedNumber, pairNumbers, earNumbers, afterWord, netForm, earForm, bareForms, otherForms, anyForm};
-ghost use Rattle.lines.specs.Line.{taken, takenPair, takenNumbers, readInto, over, told, lineRead};
+ghost use Rattle.lines.specs.Line.{taken, takenPair, over, held, told, lineRead};
 ghost use Rattle.lines.specs.Replies.{head, line, reply, opened, new, refused, closed, walked, cleared, unread, Wrote};
 
 // The words of document 01.
@@ -59,12 +59,6 @@ struct Number {
 struct Pair {
     a: u16,
     b: u16,
-    next: usize,
-}
-
-// Numbers that were read into a slice: their count, and the place after them.
-struct Numbers {
-    count: u16,
     next: usize,
 }
 
@@ -260,20 +254,31 @@ fn other_forms(bytes: &[u8]) -> Form
     bare_forms(bytes)
 }
 
-// Writes the numbers that stand at a place, each after one space, at the start of the slice.
-fn numbers_at(bytes: &[u8], at: usize, numbers: &mut [u16]) -> Numbers
+// The place after the numbers that stand at a place, each after one space.
+fn numbers_end(bytes: &[u8], at: usize) -> usize
+    ensures { λ r. ⌜ drop r (now (bytes .entry)) ≡ earNumbers (drop at (now (bytes .entry))) .rest ⌝ }
+{
+    let mut next = at;
+    loop {
+        let n = number_at(bytes, next);
+        if bytes.len() <= n.next {
+            return next;
+        }
+        next = n.next;
+    }
+}
+
+// Writes the numbers that stand at a place, each after one space, at the start of the slice, and gives their count.
+fn numbers_at(bytes: &[u8], at: usize, numbers: &mut [u16]) -> u16
     requires { ⌜ (length (now bytes) ≤ 6144) × (3072 ≤ length (now numbers)) ⌝ }
-    ensures { λ r. ⌜ takenNumbers (now (bytes .entry)) r (now (numbers .exit)) ≡ readInto (earNumbers (drop at (now (bytes .entry)))) (now (numbers .entry)) ⌝ }
+    ensures { λ r. ⌜ (r ≡ length (earNumbers (drop at (now (bytes .entry))) .list)) × (now (numbers .exit) ≡ over (earNumbers (drop at (now (bytes .entry))) .list) (now (numbers .entry))) ⌝ }
 {
     let mut next = at;
     let mut k = 0;
     loop {
         let n = number_at(bytes, next);
         if bytes.len() <= n.next {
-            return Numbers {
-                count: k as u16,
-                next,
-            };
+            return k as u16;
         }
         numbers[k] = n.value;
         k += 1;
@@ -281,19 +286,23 @@ fn numbers_at(bytes: &[u8], at: usize, numbers: &mut [u16]) -> Numbers
     }
 }
 
-// The form of a line whose word ear ends at a place; the numbers that follow it go to the start of the slice.
+// The form of a line whose word ear ends at a place; the numbers of an ear go to the start of the slice.
 fn ear_form(bytes: &[u8], at: usize, numbers: &mut [u16]) -> Form
     requires { ⌜ (length (now bytes) ≤ 6144) × (3072 ≤ length (now numbers)) ⌝ }
-    ensures { λ r. ⌜ (r ≡ told (earForm (drop at (now (bytes .entry))))) × (now (numbers .exit) ≡ over (earNumbers (drop at (now (bytes .entry))) .list) (now (numbers .entry))) ⌝ }
+    ensures { λ r. ⌜ (r ≡ told (earForm (drop at (now (bytes .entry))))) × (now (numbers .exit) ≡ held (earForm (drop at (now (bytes .entry)))) (now (numbers .entry))) ⌝ }
 {
-    let n = numbers_at(bytes, at, numbers);
-    whole(bytes, n.next, Form::Ear(n.count))
+    let end = numbers_end(bytes, at);
+    if ends(bytes, end) {
+        let count = numbers_at(bytes, at, numbers);
+        return Form::Ear(count);
+    }
+    Form::Unread
 }
 
 // The form that a line's word begins.
 fn any_form(bytes: &[u8], numbers: &mut [u16]) -> Form
     requires { ⌜ (length (now bytes) ≤ 6144) × (3072 ≤ length (now numbers)) ⌝ }
-    ensures { λ r. ⌜ (r ≡ told (anyForm (now (bytes .entry)))) × (now (numbers .exit) ≡ over (earNumbers (afterWord EAR (now (bytes .entry))) .list) (now (numbers .entry))) ⌝ }
+    ensures { λ r. ⌜ (r ≡ told (anyForm (now (bytes .entry)))) × (now (numbers .exit) ≡ held (anyForm (now (bytes .entry))) (now (numbers .entry))) ⌝ }
 {
     let ear = after_word(bytes, &EAR);
     if ear < bytes.len() {

@@ -1,10 +1,8 @@
-use Prim.Native.Nat.{ℕ}
-use mathlib.Core.Path.{sym, ap, _∙_}
-use mathlib.Core.List.{List}
-use Rattle.lines.specs.Reading.{anyForm, earNumbers}
-use Rattle.lines.specs.Line.{over}
-use Rattle.lines.proofs.Steps.{some-left, none-left, no-numbers}
-use lib.ListN.{drop-of-length-le}
+use mathlib.Core.Option.{Option}
+use mathlib.Core.Path.{refl, ap, _∙_}
+use Rattle.lines.specs.Writing.{Form}
+use Rattle.lines.specs.Line.{held, told}
+use Rattle.lines.proofs.Steps.{some-left, none-left, others-kept, any-ear, any-other}
 use borrow.Author.Needs.{needs}
 use Rattle.lines.proofs.any_form.Statement.{statement}
 use Rattle.lines.proofs.any_form.Tie as tie
@@ -22,19 +20,19 @@ same-length : tie.Need-same-length
 same-length c = search needs
 
 returns : tie.Need-returns
-unfolding anyForm
 returns c =
-    let w = c .before .before .before .before .before .after-word .ensures in
-    (c .before .before .ear-form .ensures .0 ∙ simp (w, some-left _ _ w (c .before .before .before .before .if1 .taken)), c .before .before .ear-form .ensures .1 ∙ ap (λ (l : List ℕ). over (earNumbers l .list) (c .before .before .before .before .before .before .before .before .before .args .numbers .now)) w)
+    let a = c .before .before .before .before .before .before .before .before .before .args in
+    let e = any-ear (a .bytes .now) (c .before .before .before .before .before .after-word .ensures) (some-left (a .bytes .now) (c .before .before .before .before .before .after-word .result) refl (c .before .before .before .before .if1 .taken)) in
+    (c .before .before .ear-form .ensures .0 ∙ ap told e, c .before .before .ear-form .ensures .1 ∙ ap (λ (o : Option Form). held o (a .numbers .now)) e)
 
 other-forms-requires : tie.Need-other-forms-requires
 other-forms-requires c κs = search needs
 
 returns-2 : tie.Need-returns-2
-unfolding anyForm
 returns-2 c =
-    let w = c .before .before .after-word .ensures in
-    (c .other-forms .ensures ∙ simp (none-left _ _ w (c .before .if1 .left)), no-numbers (c .before .before .before .before .before .before .args .numbers .now) (sym w ∙ drop-of-length-le _ (c .before .if1 .left)))
+    let a = c .before .before .before .before .before .before .args in
+    let e = any-other (a .bytes .now) (none-left (a .bytes .now) (c .before .before .after-word .result) (c .before .before .after-word .ensures) (c .before .if1 .left)) in
+    (c .other-forms .ensures ∙ ap told e, others-kept (a .bytes .now) (a .numbers .now) ∙ ap (λ (o : Option Form). held o (a .numbers .now)) e)
 
 pub any-form-spec : {M : Type 1} → statement M
 any-form-spec =

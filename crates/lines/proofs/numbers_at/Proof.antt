@@ -3,35 +3,34 @@ use mathlib.Core.Path.{_≡_, refl, ap}
 use native.Mathlib.Omega.{arith}
 use lib.ListN.{length, take, drop}
 use borrow.Author.Needs.{needs}
-use Rattle.lines.specs.Reading.{Taken, numbersIn, earNumbers}
+use Rattle.lines.specs.Reading.{Taken, earNumbers}
 use Rattle.lines.specs.Line.{taken}
-use Rattle.lines.proofs.Steps.{some-left, none-left, place-further, before, numbers-begin, numbers-more, numbers-all, rest-kept}
-use lib.ListN.{length-set, length-drop}
+use Rattle.lines.proofs.Steps.{some-left, none-left, place-further, before, numbers-more, numbers-all, rest-kept}
+use lib.ListN.{length-set}
 use Rattle.lines.proofs.numbers_at.Statement.{statement}
 use Rattle.lines.proofs.numbers_at.Tie as tie
 
 abbrev Inv-loop : tie.InvT-loop
-Inv-loop bytes at numbers₀ next₀ k₀ numbers next k = (2 * k + (length bytes - next) ≤ length bytes - at) × (length numbers ≡ length numbers₀) × (drop k numbers ≡ drop k numbers₀) × (earNumbers (drop at bytes) ≡ before (take k numbers) (numbersIn (length (drop at bytes) - k) (drop next bytes)))
+Inv-loop bytes at numbers₀ next₀ k₀ numbers next k = (2 * k + (length bytes - next) ≤ length bytes - at) × (length numbers ≡ length numbers₀) × (drop k numbers ≡ drop k numbers₀) × (earNumbers (drop at bytes) ≡ before (take k numbers) (earNumbers (drop next bytes)))
 
 abbrev μ-loop : tie.MeasureT-loop
 μ-loop bytes at numbers₀ next₀ k₀ numbers next k = length bytes - next
 
 loop-holds : tie.Need-loop-holds Inv-loop μ-loop
-loop-holds c = (omega arith, refl, refl, numbers-begin _ (c .before .before .args .numbers .now))
+loop-holds c = (omega arith, refl, refl, refl)
 
 number-at-requires : tie.Need-number-at-requires Inv-loop μ-loop
 number-at-requires c κs = search needs
 
-cast-t9 : tie.Need-cast-t9 Inv-loop μ-loop
-cast-t9 c = search needs
+cast-result : tie.Need-cast-result Inv-loop μ-loop
+cast-result c = search needs
 
 same-length : tie.Need-same-length Inv-loop μ-loop
 same-length c = c .before .before .before .loop .inv .1
 
 returns : tie.Need-returns Inv-loop μ-loop
 returns c =
-    let e = c .before .before .number-at .ensures in
-    numbers-all _ _ (c .before .before .before .loop .k) (c .before .before .before .loop .numbers) (c .before .before .before .loop .inv .3) _ (none-left (c .before .before .before .before .before .before .args .bytes .now) _ (ap (λ (t : Taken). t .rest) e) (c .if1 .taken)) (omega arith) (c .before .before .before .loop .inv .2)
+    numbers-all _ _ (c .before .before .before .loop .k) (c .before .before .before .loop .numbers) (c .before .before .before .loop .inv .3) _ (none-left (c .before .before .before .before .before .before .args .bytes .now) _ (ap (λ (t : Taken). t .rest) (c .before .before .number-at .ensures)) (c .if1 .taken)) (omega arith) (c .before .before .before .loop .inv .2)
 
 mul-numbers : tie.Need-mul-numbers Inv-loop μ-loop
 mul-numbers c = search needs
@@ -55,7 +54,7 @@ loop-again c =
       omega arith,
       simp length-set (l .inv .1),
       rest-kept (l .k) (n .value) (l .numbers) (a .numbers .now) (l .inv .2),
-      numbers-more _ _ (l .k) (l .numbers) (l .inv .3) (taken (a .bytes .now) n) e (some-left (a .bytes .now) (n .next) refl (c .if1 .left)) (omega (arith, length-drop (a .at) (a .bytes .now))) (omega arith),
+      numbers-more _ _ (l .k) (l .numbers) (l .inv .3) (taken (a .bytes .now) n) e (some-left (a .bytes .now) (n .next) refl (c .if1 .left)) (omega arith),
     )
 
 pub numbers-at-spec : {M : Type 1} → statement M
@@ -66,7 +65,7 @@ numbers-at-spec =
     μ-loop
     loop-holds
     number-at-requires
-    cast-t9
+    cast-result
     same-length
     returns
     mul-numbers

@@ -1,13 +1,12 @@
 use mathlib.Core.Path.{_∙_}
 use borrow.Author.Tests.{lt-ltb, le-ltb}
 use Rattle.lines.specs.Reading.{reading}
-use Rattle.lines.specs.Line.{begun}
 use borrow.Author.Needs.{needs}
 use Rattle.lines.proofs.read_line.Statement.{statement}
 use Rattle.lines.proofs.read_line.Tie as tie
 
 returns : tie.Need-returns
-unfolding reading begun
+unfolding reading
 returns c = let t = lt-ltb _ _ (c .if1 .taken) in (simp t, simp t)
 
 any-form-requires : tie.Need-any-form-requires
@@ -17,7 +16,7 @@ same-length : tie.Need-same-length
 same-length c = search needs
 
 returns-2 : tie.Need-returns-2
-unfolding reading begun
+unfolding reading
 returns-2 c = let t = le-ltb _ _ (c .before .before .before .before .if1 .left) in (simp (t, c .before .before .any-form .ensures .0), c .before .before .any-form .ensures .1 ∙ simp t)
 
 pub read-line-spec : {M : Type 1} → statement M
