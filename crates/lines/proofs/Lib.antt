@@ -5,3 +5,4 @@ pub mod ReadExactly
 pub mod Places
 pub mod Steps
 pub mod Slices
+pub mod Examples

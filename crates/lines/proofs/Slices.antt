@@ -68,7 +68,8 @@ spaced-suc : (ns : List ℕ) (k : ℕ) → k < length ns → spaced (map decimal
 unfolding spaced
 spaced-suc [] k h = absurd (omega arith)
 spaced-suc (n ∷ ns) zero h = rw append-nil
-spaced-suc (n ∷ ns) (suc k) h = rw (spaced-suc ns k (omega arith), append-assoc)
+spaced-suc (n ∷ ns) (suc k) h =
+    rw (spaced-suc ns k (omega arith)) (sym (ap (λ (l : List ℕ). 32 ∷ l) (append-assoc (decimal n) (spaced (map decimal (take k ns))) (32 ∷ decimal (getD ns k 0)))))
 
 -- a space and a number after the first k numbers
 pub wrote-number : (at : ℕ) (ns held : List ℕ) (n : ℕ) (holds : List ℕ) (k : ℕ) (m : ℕ) (middle : List ℕ) (next : ℕ) (then : List ℕ)

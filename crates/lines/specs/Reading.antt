@@ -7,7 +7,7 @@ use mathlib.Core.Option.{Option, none, some}
 use Prim.Native.Nat.{ℕ, zero, suc, _+_, _-_, _*_, _≤_}
 use lib.Dec.{eqb, ltb}
 use lib.ListN.{length}
-use Rattle.lines.specs.Writing.{NET, ROOT, FIRST, LAST, LINK, OPEN, EAR, CLOSE, WALK, CLEAR, Form, net, link, opening, ear, closing, walk, clearing, writing, numbersOf}
+use Rattle.lines.specs.Writing.{ascii, NET, ROOT, FIRST, LAST, LINK, OPEN, EAR, CLOSE, WALK, CLEAR, Form, net, link, opening, ear, closing, walk, clearing, writing, numbersOf}
 
 -- what follows a part
 unfoldable pub after : List ℕ → List ℕ → List ℕ
@@ -53,13 +53,13 @@ number (x ∷ s) =
 
 -- one space, and a number
 abbrev pub spacedNumber : List ℕ → Taken
-spacedNumber s = number (after (32 ∷ []) s)
+spacedNumber s = number (after (ascii " ") s)
 
 -- one space, and a word with one number in brackets
 unfoldable pub namedNumber : List ℕ → List ℕ → Taken
 namedNumber word s =
-    let n = spacedNumber (after word (after (32 ∷ 40 ∷ []) s)) in
-    record { value = n .value; rest = after (41 ∷ []) (n .rest) }
+    let n = spacedNumber (after word (after (ascii " (") s)) in
+    record { value = n .value; rest = after (ascii ")") (n .rest) }
 
 -- numbers that were read, and what follows them
 pub record TakenList : Type 0 where
@@ -81,7 +81,7 @@ earNumbers s = numbersIn (length s) s
 
 -- the opening bracket, and a word
 abbrev pub afterWord : List ℕ → List ℕ → List ℕ
-afterWord word s = after word (after (40 ∷ []) s)
+afterWord word s = after word (after (ascii "(") s)
 
 -- what follows the word net
 unfoldable pub netForm : List ℕ → Option Form

@@ -4,31 +4,26 @@ use mathlib.Core.Path.{_≡_}
 use mathlib.Core.List.{List, [], _∷_, _++_, map}
 use Prim.Native.Nat.{ℕ, _+_}
 use lib.ListN.{length, take, drop}
-use Rattle.lines.specs.Writing.{WALK, decimal, spaced, bracketed}
+use Rattle.lines.specs.Writing.{ascii, WALK, decimal, spaced, bracketed}
 
--- opened
+-- the words of the replies
 abbrev pub OPENED : List ℕ
-OPENED = 111 ∷ 112 ∷ 101 ∷ 110 ∷ 101 ∷ 100 ∷ []
+OPENED = ascii "opened"
 
--- new
 abbrev pub NEW : List ℕ
-NEW = 110 ∷ 101 ∷ 119 ∷ []
+NEW = ascii "new"
 
--- refused
 abbrev pub REFUSED : List ℕ
-REFUSED = 114 ∷ 101 ∷ 102 ∷ 117 ∷ 115 ∷ 101 ∷ 100 ∷ []
+REFUSED = ascii "refused"
 
--- closed
 abbrev pub CLOSED : List ℕ
-CLOSED = 99 ∷ 108 ∷ 111 ∷ 115 ∷ 101 ∷ 100 ∷ []
+CLOSED = ascii "closed"
 
--- cleared
 abbrev pub CLEARED : List ℕ
-CLEARED = 99 ∷ 108 ∷ 101 ∷ 97 ∷ 114 ∷ 101 ∷ 100 ∷ []
+CLEARED = ascii "cleared"
 
--- unread
 abbrev pub UNREAD : List ℕ
-UNREAD = 117 ∷ 110 ∷ 114 ∷ 101 ∷ 97 ∷ 100 ∷ []
+UNREAD = ascii "unread"
 
 -- the replies
 pub data Reply : Type 0 where
@@ -42,11 +37,11 @@ pub data Reply : Type 0 where
 
 -- the opening bracket, a word and numbers, each after one space
 abbrev pub head : List ℕ → List ℕ → List ℕ
-head word numbers = 40 ∷ (word ++ spaced (map decimal numbers))
+head word numbers = ascii "(" ++ (word ++ spaced (map decimal numbers))
 
 -- parts in brackets, and a line feed
 abbrev pub line : List (List ℕ) → List ℕ
-line parts = bracketed parts ++ (10 ∷ [])
+line parts = bracketed parts ++ ascii "\n"
 
 -- the bytes of a reply
 abbrev pub reply : Reply → List ℕ

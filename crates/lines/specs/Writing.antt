@@ -1,49 +1,48 @@
--- Document 01, "Lines of threeways": the words, the forms of a line, the replies, and the bytes that each is written in.
--- Bytes are ASCII: 10 is the line feed, 32 the space, 40 and 41 the brackets, 48 the digit 0.
+-- Document 01, "Lines of threeways": the words, the forms of a line, and the bytes that each is written in.
+-- Bytes are ASCII; 48 is the digit 0.
 use mathlib.Core.Bool.{cond}
 use mathlib.Core.List.{List, [], _∷_, _++_, map}
+use Prim.Native.Char.{code}
+use Prim.Native.String.{String}
+use Prim.Native.String as Text
 use Prim.Native.Nat.{ℕ, zero, suc, _+_, _/_, _%_}
 use lib.Dec.{ltb}
 
--- net
+-- the bytes of a text
+abbrev pub ascii : String → List ℕ
+ascii Text.[] = []
+ascii (Text._∷_ c s) = code c ∷ ascii s
+
+-- the words
 abbrev pub NET : List ℕ
-NET = 110 ∷ 101 ∷ 116 ∷ []
+NET = ascii "net"
 
--- root
 abbrev pub ROOT : List ℕ
-ROOT = 114 ∷ 111 ∷ 111 ∷ 116 ∷ []
+ROOT = ascii "root"
 
--- first
 abbrev pub FIRST : List ℕ
-FIRST = 102 ∷ 105 ∷ 114 ∷ 115 ∷ 116 ∷ []
+FIRST = ascii "first"
 
--- last
 abbrev pub LAST : List ℕ
-LAST = 108 ∷ 97 ∷ 115 ∷ 116 ∷ []
+LAST = ascii "last"
 
--- link
 abbrev pub LINK : List ℕ
-LINK = 108 ∷ 105 ∷ 110 ∷ 107 ∷ []
+LINK = ascii "link"
 
--- open
 abbrev pub OPEN : List ℕ
-OPEN = 111 ∷ 112 ∷ 101 ∷ 110 ∷ []
+OPEN = ascii "open"
 
--- ear
 abbrev pub EAR : List ℕ
-EAR = 101 ∷ 97 ∷ 114 ∷ []
+EAR = ascii "ear"
 
--- close
 abbrev pub CLOSE : List ℕ
-CLOSE = 99 ∷ 108 ∷ 111 ∷ 115 ∷ 101 ∷ []
+CLOSE = ascii "close"
 
--- walk
 abbrev pub WALK : List ℕ
-WALK = 119 ∷ 97 ∷ 108 ∷ 107 ∷ []
+WALK = ascii "walk"
 
--- clear
 abbrev pub CLEAR : List ℕ
-CLEAR = 99 ∷ 108 ∷ 101 ∷ 97 ∷ 114 ∷ []
+CLEAR = ascii "clear"
 
 -- at most so many digits after the first: the digits of a tenth, then the last one
 unfoldable pub decimalIn : ℕ → ℕ → List ℕ
@@ -57,7 +56,7 @@ decimal n = decimalIn n n
 -- parts, each after one space
 unfoldable pub spaced : List (List ℕ) → List ℕ
 spaced [] = []
-spaced (p ∷ ps) = 32 ∷ (p ++ spaced ps)
+spaced (p ∷ ps) = ascii " " ++ (p ++ spaced ps)
 
 -- parts, one space between
 unfoldable pub joined : List (List ℕ) → List ℕ
@@ -66,7 +65,7 @@ joined (p ∷ ps) = p ++ spaced ps
 
 -- parts in brackets
 unfoldable pub bracketed : List (List ℕ) → List ℕ
-bracketed ps = 40 ∷ (joined ps ++ (41 ∷ []))
+bracketed ps = ascii "(" ++ (joined ps ++ ascii ")")
 
 -- the forms of a line
 pub data Form : Type 0 where
