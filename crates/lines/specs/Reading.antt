@@ -1,5 +1,5 @@
--- Document 01, "Lines of threeways": which form the bytes of a line are read as, part by part from the left, and the statement that
--- a line is read as a form exactly when it is its writing. A part that does not stand where it must leaves nothing to read on.
+-- Document 01, "Lines of threeways": the form that the bytes of a line are read as, part by part from the left, and the statement that
+-- this is so exactly for its writing, which proofs/ReadExactly.antt proves. A part that is not where it must be leaves nothing to read on.
 use mathlib.Core.Path.{_≡_}
 use mathlib.Core.Bool.{Bool, true, false, cond}
 use mathlib.Core.List.{List, [], _∷_}
@@ -9,7 +9,7 @@ use lib.Dec.{eqb, ltb}
 use lib.ListN.{length}
 use Rattle.lines.specs.Writing.{ascii, NET, ROOT, FIRST, LAST, LINK, OPEN, EAR, CLOSE, WALK, CLEAR, Form, net, link, opening, ear, closing, walk, clearing, writing, numbersOf}
 
--- what follows a part
+-- what follows a part; nothing, where the part does not stand here
 unfoldable pub after : List ℕ → List ℕ → List ℕ
 after [] s = s
 after (b ∷ part) [] = []

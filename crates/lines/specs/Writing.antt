@@ -1,5 +1,5 @@
--- Document 01, "Lines of threeways": the words, the forms of a line, and the bytes that each is written in.
--- Bytes are ASCII; 48 is the digit 0.
+-- Document 01, "Lines of threeways": the words, the forms of a line, and the bytes that each is written in, in ASCII; 48 is the digit 0.
+-- Laws: proofs/Decimals.antt. Document 01's lines, computed: proofs/Examples.antt.
 use mathlib.Core.Bool.{cond}
 use mathlib.Core.List.{List, [], _∷_, _++_, map}
 use Prim.Native.Char.{code}

@@ -6,7 +6,7 @@ ghost use mathlib.Core.List.{_∷_, map};
 ghost use Prim.Native.Nat.{_+_, _*_, _≤_};
 ghost use lib.ListN.{length, drop};
 ghost use Rattle.lines.specs.Writing.{decimal, spaced, joined};
-ghost use Rattle.lines.specs.Reading.{after, ends, nothing, digits, number, spacedNumber, namedNumber, pairNumbers, earNumbers, afterWord, netForm, earForm, bareForms, otherForms, anyForm};
+ghost use Rattle.lines.specs.Reading.{after, ends, nothing, digits, spacedNumber, namedNumber, pairNumbers, earNumbers, afterWord, netForm, earForm, bareForms, otherForms, anyForm};
 ghost use Rattle.lines.specs.Line.{taken, takenPair, over, held, told, lineRead};
 ghost use Rattle.lines.specs.Replies.{head, line, reply, opened, new, refused, closed, walked, cleared, unread, Wrote};
 

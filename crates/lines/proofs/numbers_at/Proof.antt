@@ -1,12 +1,11 @@
 use Prim.Native.Nat.{_≤_, _+_, _-_, _*_}
 use mathlib.Core.Path.{_≡_, refl, ap}
 use native.Mathlib.Omega.{arith}
-use lib.ListN.{length, take, drop}
+use lib.ListN.{length, take, drop, length-set}
 use borrow.Author.Needs.{needs}
 use Rattle.lines.specs.Reading.{Taken, earNumbers}
 use Rattle.lines.specs.Line.{taken}
 use Rattle.lines.proofs.Steps.{some-left, none-left, place-further, before, numbers-more, numbers-all, rest-kept}
-use lib.ListN.{length-set}
 use Rattle.lines.proofs.numbers_at.Statement.{statement}
 use Rattle.lines.proofs.numbers_at.Tie as tie
 

@@ -1,11 +1,10 @@
 use Prim.Native.Nat.{_≤_, _+_, _-_}
 use mathlib.Core.Path.{_≡_, refl}
 use native.Mathlib.Omega.{arith}
-use lib.ListN.{length, take}
+use lib.ListN.{length, take, length-set}
 use borrow.Author.Needs.{needs}
 use Rattle.lines.specs.Replies.{Wrote}
 use Rattle.lines.proofs.Slices.{wrote-none, wrote-next, wrote-all}
-use lib.ListN.{length-set}
 use Rattle.lines.proofs.put.Statement.{statement}
 use Rattle.lines.proofs.put.Tie as tie
 
