@@ -6,25 +6,6 @@ use Prim.Native.Nat.{ℕ, _+_}
 use lib.ListN.{length, take, drop}
 use Rattle.lines.specs.Writing.{ascii, WALK, decimal, spaced, bracketed}
 
--- the words of the replies
-abbrev pub OPENED : List ℕ
-OPENED = ascii "opened"
-
-abbrev pub NEW : List ℕ
-NEW = ascii "new"
-
-abbrev pub REFUSED : List ℕ
-REFUSED = ascii "refused"
-
-abbrev pub CLOSED : List ℕ
-CLOSED = ascii "closed"
-
-abbrev pub CLEARED : List ℕ
-CLEARED = ascii "cleared"
-
-abbrev pub UNREAD : List ℕ
-UNREAD = ascii "unread"
-
 -- the replies
 pub data Reply : Type 0 where
   opened : (switches links : ℕ) → Reply
@@ -45,13 +26,13 @@ line parts = bracketed parts ++ ascii "\n"
 
 -- the bytes of a reply
 abbrev pub reply : Reply → List ℕ
-reply (opened n m) = line (OPENED ∷ decimal n ∷ decimal m ∷ [])
-reply (new count) = line (NEW ∷ decimal count ∷ [])
-reply (refused number place) = line (REFUSED ∷ decimal number ∷ decimal place ∷ [])
-reply closed = line (CLOSED ∷ [])
+reply (opened n m) = line (ascii "opened" ∷ decimal n ∷ decimal m ∷ [])
+reply (new count) = line (ascii "new" ∷ decimal count ∷ [])
+reply (refused number place) = line (ascii "refused" ∷ decimal number ∷ decimal place ∷ [])
+reply closed = line (ascii "closed" ∷ [])
 reply (walked switch tree switches) = line (WALK ∷ decimal switch ∷ decimal tree ∷ bracketed (map decimal switches) ∷ [])
-reply cleared = line (CLEARED ∷ [])
-reply (unread number) = line (UNREAD ∷ decimal number ∷ [])
+reply cleared = line (ascii "cleared" ∷ [])
+reply (unread number) = line (ascii "unread" ∷ decimal number ∷ [])
 
 -- bytes written into a slice from index at on: the index after them, and what the slice holds, elsewhere what it held
 pub record Wrote (at : ℕ) (bytes held : List ℕ) (next : ℕ) (holds : List ℕ) : Type 0 where
