@@ -1,0 +1,8 @@
+pub mod Decimals
+pub mod Parts
+pub mod EarNumbers
+pub mod ReadExactly
+pub mod Places
+pub mod Steps
+pub mod Slices
+pub mod Examples

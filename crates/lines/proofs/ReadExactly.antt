@@ -1,0 +1,169 @@
+-- A line is read as a form exactly when it is the writing of the form, its numbers are at most 65535 and it has at most 6,144 bytes.
+-- One law for each shape of form, in each direction.
+use mathlib.Core.Path.{_≡_, refl, sym, ap, _∙_, subst}
+use mathlib.Core.Logic.{_⊎_, inl, inr, ⊎-elim}
+use mathlib.Core.Bool.{Bool, true, false, cond}
+use mathlib.Core.List.{List, [], _∷_, _++_, append-assoc, append-nil, map}
+use mathlib.Core.Option.{Option, none, some}
+use Prim.Native.Nat.{ℕ, _≤_}
+use native.Mathlib.Omega.{arith}
+use lib.Dec.{ltb}
+use lib.ListN.{length}
+use borrow.Author.Tests.{le-ltb, ltb-false}
+use Rattle.lines.specs.Writing.{NET, ROOT, FIRST, LAST, LINK, OPEN, EAR, CLOSE, WALK, CLEAR, decimal, spaced, joined, bracketed, Form, net, link, opening, ear, closing, walk, clearing, writing, numbersOf}
+use Rattle.lines.specs.Reading.{after, more, ends, spacedNumber, namedNumber, earNumbers, afterWord, netForm, pairNumbers, pairForm, bareForm, earForm, bareForms, otherForms, anyForm, reading, Narrow, Writes, ReadExactly}
+use Rattle.lines.proofs.Parts.{more-append, ends-bytes, after-bytes, spaced-bytes, spaced-part, namedBefore, named-bytes, named-part}
+use Rattle.lines.proofs.EarNumbers.{numbers-bytes, numbers-part}
+
+-- the bytes are the writing of a form, with numbers up to 65535
+abbrev Form·of : List ℕ → Form → Type 0
+Form·of s f = (s ≡ writing f) × Narrow (numbersOf f)
+
+never : {X : Type 0} {f : Form} → none ≡ some f → X
+never e = let z : _≡_ {A = ℕ} 0 1 = cc in absurd (omega arith)
+
+-- a form that a test lets pass
+passed : (b : Bool) {g f : Form} → cond b (some g) none ≡ some f → (b ≡ true) × (g ≡ f)
+passed true e = (refl, cc)
+passed false e = never e
+
+either : (b : Bool) {x y : Option Form} {f : Form} → cond b x y ≡ some f → (x ≡ some f) ⊎ (y ≡ some f)
+either true e = inl e
+either false e = inr e
+
+-- the opening bracket and a word
+word-bytes : (word s : List ℕ) → more (afterWord word s) ≡ true → s ≡ 40 ∷ (word ++ afterWord word s)
+word-bytes word s m =
+    let w = after-bytes word (after (40 ∷ []) s) m in
+    after-bytes (40 ∷ []) s (ap more w ∙ more-append word (afterWord word s) m) ∙ ap (λ (l : List ℕ). 40 ∷ l) w
+
+-- two numbers and the closing bracket
+pair-bytes : (form : ℕ → ℕ → Form) (s : List ℕ) {f : Form} → pairForm form s ≡ some f
+    → (a b : ℕ) × (form a b ≡ f) × (s ≡ 32 ∷ (decimal a ++ (32 ∷ (decimal b ++ (41 ∷ []))))) × (a ≤ 65535) × (b ≤ 65535)
+unfolding pairNumbers
+pair-bytes form s e =
+    let a = spacedNumber s in
+    let b = spacedNumber (a .rest) in
+    let p = passed (ends (b .rest)) e in
+    let end = ends-bytes (b .rest) (p .0) in
+    let second = spaced-bytes (a .rest) (ap more end) in
+    let first = spaced-bytes s (ap more (second .0)) in
+    (a .value, b .value, p .1, first .0 ∙ ap (λ (l : List ℕ). 32 ∷ (decimal (a .value) ++ l)) (second .0 ∙ ap (λ (l : List ℕ). 32 ∷ (decimal (b .value) ++ l)) end), first .1, second .1)
+
+pair-writing : (word : List ℕ) (a b : ℕ) → bracketed (word ∷ decimal a ∷ decimal b ∷ []) ≡ 40 ∷ (word ++ (32 ∷ (decimal a ++ (32 ∷ (decimal b ++ (41 ∷ []))))))
+unfolding joined bracketed spaced
+pair-writing word a b = simp append-assoc
+
+net-writing : (n root first last : ℕ) → writing (net n root first last)
+    ≡ 40 ∷ (NET ++ (32 ∷ (decimal n ++ namedBefore ROOT root (namedBefore FIRST first (namedBefore LAST last (41 ∷ []))))))
+unfolding writing joined bracketed spaced
+net-writing n root first last = simp append-assoc
+
+-- a word with two numbers was read
+pair-read : (word s : List ℕ) (form : ℕ → ℕ → Form) {f : Form} → ((a b : ℕ) → writing (form a b) ≡ bracketed (word ∷ decimal a ∷ decimal b ∷ []))
+    → ((a b : ℕ) → numbersOf (form a b) ≡ a ∷ b ∷ []) → pairForm form (afterWord word s) ≡ some f → Form·of s f
+unfolding Narrow
+pair-read word s form w ns e =
+    let (a, b, q, t, na, nb) = pair-bytes form (afterWord word s) e in
+    subst (Form·of s) q
+    (word-bytes word s (ap more t) ∙ ap (λ (l : List ℕ). 40 ∷ (word ++ l)) t ∙ sym (pair-writing word a b) ∙ sym (w a b), rw (ns a b) (na, (nb, tt)))
+
+-- a word with no number was read
+bare-read : (word s : List ℕ) (form : Form) {f : Form} → writing form ≡ bracketed (word ∷ []) → numbersOf form ≡ [] → bareForm form (afterWord word s) ≡ some f → Form·of s f
+unfolding Narrow joined bracketed spaced
+bare-read word s form w ns e =
+    let p = passed (ends (afterWord word s)) e in
+    let end = ends-bytes (afterWord word s) (p .0) in
+    subst (Form·of s) (p .1)
+    (word-bytes word s (ap more end) ∙ ap (λ (l : List ℕ). 40 ∷ (word ++ l)) end ∙ sym (w ∙ ap (λ (l : List ℕ). 40 ∷ (l ++ (41 ∷ []))) (append-nil word)), rw ns tt)
+
+net-read : (s : List ℕ) {f : Form} → netForm (afterWord NET s) ≡ some f → Form·of s f
+unfolding netForm Narrow
+net-read s e =
+    let rest = afterWord NET s in
+    let n = spacedNumber rest in
+    let root = namedNumber ROOT (n .rest) in
+    let first = namedNumber FIRST (root .rest) in
+    let last = namedNumber LAST (first .rest) in
+    let p = passed (ends (last .rest)) e in
+    let end = ends-bytes (last .rest) (p .0) in
+    let l = named-bytes LAST (first .rest) (ap more end) in
+    let f = named-bytes FIRST (root .rest) (ap more (l .0)) in
+    let r = named-bytes ROOT (n .rest) (ap more (f .0)) in
+    let c = spaced-bytes rest (ap more (r .0)) in
+    subst (Form·of s) (p .1) (
+      word-bytes NET s (ap more (c .0))
+          ∙ ap (λ (t : List ℕ). 40 ∷ (NET ++ t)) (c .0
+          ∙ ap (λ (t : List ℕ). 32 ∷ (decimal (n .value) ++ t)) (r .0
+          ∙ ap (namedBefore ROOT (root .value)) (f .0
+          ∙ ap (namedBefore FIRST (first .value)) (l .0
+          ∙ ap (namedBefore LAST (last .value)) end))))
+          ∙ sym (net-writing (n .value) (root .value) (first .value) (last .value)),
+      (c .1, (r .1, (f .1, (l .1, tt)))),
+    )
+
+ear-read : (s : List ℕ) {f : Form} → earForm (afterWord EAR s) ≡ some f → Form·of s f
+unfolding writing joined bracketed
+ear-read s e =
+    let rest = afterWord EAR s in
+    let before = spaced (map decimal (earNumbers rest .list)) in
+    let p = passed (ends (earNumbers rest .rest)) e in
+    let n = numbers-bytes rest in
+    let t : rest ≡ before ++ (41 ∷ []) = n .0 ∙ ap (λ (l : List ℕ). before ++ l) (ends-bytes (earNumbers rest .rest) (p .0)) in
+    subst (Form·of s) (p .1) (word-bytes EAR s (ap more t ∙ more-append before (41 ∷ []) refl) ∙ ap (λ (l : List ℕ). 40 ∷ (EAR ++ l)) t, n .1)
+
+-- a line that is read as a form is its writing
+form-read : (s : List ℕ) {f : Form} → anyForm s ≡ some f → Form·of s f
+unfolding anyForm otherForms bareForms writing
+form-read s e =
+    ⊎-elim (ear-read s) (λ e₁.
+    ⊎-elim (pair-read LINK s link (λ a b. refl) (λ a b. refl)) (λ e₂.
+    ⊎-elim (pair-read WALK s walk (λ a b. refl) (λ a b. refl)) (λ e₃.
+    ⊎-elim (net-read s) (λ e₄.
+    ⊎-elim (bare-read OPEN s opening refl refl) (λ e₅.
+    ⊎-elim (bare-read CLOSE s closing refl refl) (bare-read CLEAR s clearing refl refl)
+    (either (more (afterWord CLOSE s)) e₅))
+    (either (more (afterWord OPEN s)) e₄))
+    (either (more (afterWord NET s)) e₃))
+    (either (more (afterWord WALK s)) e₂))
+    (either (more (afterWord LINK s)) e₁))
+    (either (more (afterWord EAR s)) e)
+
+read-bytes : (s : List ℕ) (f : Form) → reading s ≡ some f → Writes f s
+unfolding reading
+read-bytes s f e = go (ltb 6144 (length s)) refl e
+  where
+    go : (b : Bool) → ltb 6144 (length s) ≡ b → cond b none (anyForm s) ≡ some f → Writes f s
+    go true l e₁ = never e₁
+    go false l e₁ = let r = form-read s e₁ in record { bytes = r .0; narrow = r .1; short = ltb-false 6144 (length s) l }
+
+pair-part : (form : ℕ → ℕ → Form) (a b : ℕ) → a ≤ 65535 → b ≤ 65535 → pairForm form (32 ∷ (decimal a ++ (32 ∷ (decimal b ++ (41 ∷ []))))) ≡ some (form a b)
+unfolding pairNumbers
+pair-part form a b h g = rw (spaced-part a 32 (decimal b ++ (41 ∷ [])) h (omega arith), spaced-part b 41 [] g (omega arith))
+
+net-part : (n root first last : ℕ) → Narrow (n ∷ root ∷ first ∷ last ∷ [])
+    → netForm (32 ∷ (decimal n ++ namedBefore ROOT root (namedBefore FIRST first (namedBefore LAST last (41 ∷ []))))) ≡ some (net n root first last)
+unfolding netForm Narrow
+net-part n root first last (c, (r, (f, (l, w)))) =
+    rw (
+      spaced-part n 32 (40 ∷ (ROOT ++ (32 ∷ (decimal root ++ (41 ∷ namedBefore FIRST first (namedBefore LAST last (41 ∷ []))))))) c (omega arith),
+      named-part ROOT root (namedBefore FIRST first (namedBefore LAST last (41 ∷ []))) r,
+      named-part FIRST first (namedBefore LAST last (41 ∷ [])) f,
+      named-part LAST last (41 ∷ []) l,
+    )
+
+-- the writing of a form is read as the form
+form-part : (f : Form) → Narrow (numbersOf f) → anyForm (writing f) ≡ some f
+unfolding anyForm otherForms bareForms writing joined bracketed spaced after Narrow
+form-part (net n root first last) w = ap anyForm (net-writing n root first last) ∙ net-part n root first last w
+form-part (link a b) w = ap anyForm (pair-writing LINK a b) ∙ pair-part link a b (w .0) (w .1 .0)
+form-part opening w = refl
+form-part (ear []) w = rw (numbers-part [] w)
+form-part (ear (n ∷ ns)) w = rw (numbers-part (n ∷ ns) w)
+form-part closing w = refl
+form-part (walk switch tree) w = ap anyForm (pair-writing WALK switch tree) ∙ pair-part walk switch tree (w .0) (w .1 .0)
+form-part clearing w = refl
+
+pub read-exactly : ReadExactly
+unfolding reading
+read-exactly s f = (read-bytes s f, λ w. rw (w .bytes, le-ltb 6144 (length (writing f)) (rw (w .bytes) at (w .short))) (form-part f (w .narrow)))
