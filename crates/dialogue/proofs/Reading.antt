@@ -1,0 +1,70 @@
+-- Laws of the bytes of a line: one more is held, up to 6,145, and where the line ends, what is known after it.
+-- Where no more is read, nothing changes.
+use mathlib.Core.Path.{_≡_, sym, ap, _∙_}
+use mathlib.Core.Logic.{_≢_}
+use mathlib.Core.Bool.{Bool, true, false, _||_, cond}
+use mathlib.Core.List.{List, [], _∷_, _++_, append-nil}
+use Prim.Native.Nat.{ℕ, suc, min, _+_, _≤_, _<_}
+use native.Mathlib.Numerals.{add-one}
+use native.Mathlib.Omega.{arith}
+use lib.Dec.{ltb}
+use lib.ListN.{length, set, take, drop, drop-of-length-le, length-take, length-append}
+use lib.Seq.{drop-cons, take-all, take-at, take-suc-set}
+use borrow.Author.Tests.{eq-eqb, ne-eqb}
+use Rattle.mondschein.specs.Network.{at}
+use Rattle.dialogue.specs.declared.Answered.{Answered}
+use Rattle.dialogue.specs.declared.Reader.{Reader as Code·Reader}
+use Rattle.dialogue.specs.Transcript.{Turn, Reader, ended, heldLine}
+use Rattle.dialogue.specs.Dialogue.{Dialogue, turn}
+use Rattle.dialogue.specs.Answering.{dialogueIn, turnIn, readerIn, Ends}
+use Rattle.dialogue.proofs.Replying.{least-take}
+
+module _ (line : List ℕ) (held b : ℕ) (whole : length line ≡ 6145) where
+  pub hold-full : 6145 ≤ held → take held line ≡ take 6145 (take held line ++ (b ∷ []))
+  hold-full h =
+      take-all held line (omega arith)
+      ∙ sym (ap (λ (l : List ℕ). take 6145 (l ++ (b ∷ []))) (take-all held line (omega arith)) ∙ take-at line (b ∷ []) 6145 whole)
+
+  pub hold-more : held < 6145 → take (held + 1) (set line held b) ≡ take 6145 (take held line ++ (b ∷ []))
+  hold-more h =
+      ap (λ (k : ℕ). take k (set line held b)) (add-one held)
+      ∙ take-suc-set line held b (omega arith)
+      ∙ sym (take-all 6145 (take held line ++ (b ∷ [])) (omega (arith, length-append (take held line) (b ∷ []), length-take held line)))
+
+module _ (r : Code·Reader) (links line : List ℕ) where
+  pub end-quiet : (out : List ℕ) {x : Code·Reader} → (r .stopped || ltb 65535 (r .number)) ≡ true
+      → x ≡ record { kept = r .kept; number = r .number; held = r .held; written = 0; stopped = r .stopped } → Ends r links line x links out
+  unfolding ended
+  end-quiet out q e printed =
+      let t = turn (dialogueIn (r .kept) links) (r .number) (take (r .held) line) in
+      let old = readerIn r links line printed in
+      ap (λ (y : Code·Reader). readerIn y links line (printed ++ take (y .written) out)) e
+      ∙ ap (readerIn r links line) (append-nil printed)
+      ∙ sym (ap (λ (b : Bool). cond b old (record { state = t .after; number = suc (r .number); line = []; output = printed ++ t .printed; stopped = t .stops })) q)
+
+  pub end-turn : (links′ out : List ℕ) (a : Answered) {h : ℕ} → (r .stopped || ltb 65535 (r .number)) ≡ false → h ≡ min (r .held) (length line)
+      → turnIn a links′ out ≡ turn (dialogueIn (r .kept) links) (r .number) (take h line)
+      → Ends r links line (record { kept = a .kept; number = r .number + 1; held = 0; written = a .written; stopped = a .stops }) links′ out
+  unfolding ended
+  end-turn links′ out a q m e printed =
+      let d = dialogueIn (r .kept) links in
+      let t = turn d (r .number) (take (r .held) line) in
+      ap (λ (k : ℕ). record { state = dialogueIn (a .kept) links′; number = k; line = []; output = printed ++ take (a .written) out; stopped = a .stops }) (add-one (r .number))
+      ∙ ap (λ (u : Turn Dialogue). record { state = u .after; number = suc (r .number); line = []; output = printed ++ u .printed; stopped = u .stops })
+      (e ∙ ap (turn d (r .number)) (least-take (r .held) line m))
+      ∙ sym (ap (λ (b : Bool). cond b (readerIn r links line printed) (record { state = t .after; number = suc (r .number); line = []; output = printed ++ t .printed; stopped = t .stops })) q)
+
+-- a block that is held byte by byte
+module _ (l block : List ℕ) (i : ℕ) where
+  pub held-end : length block ≤ i → record { line = l; rest = drop i block; ends = false } ≡ heldLine l (drop i block)
+  unfolding heldLine
+  held-end h = rw (drop-of-length-le block {i = i} h)
+
+  module _ (h : i < length block) where
+    pub held-feed : at block i ≡ 10 → record { line = l; rest = drop (i + 1) block; ends = true } ≡ heldLine l (drop i block)
+    unfolding heldLine
+    held-feed q = rw (drop-cons block i 0 h, add-one i, eq-eqb (at block i) 10 q)
+
+    pub held-byte : at block i ≢ 10 → heldLine l (drop i block) ≡ heldLine (take 6145 (l ++ (at block i ∷ []))) (drop (i + 1) block)
+    unfolding heldLine
+    held-byte d = rw (drop-cons block i 0 h, add-one i, ne-eqb (at block i) 10 d)

@@ -1,0 +1,3 @@
+pub mod Transcript
+pub mod Dialogue
+pub mod Answering
