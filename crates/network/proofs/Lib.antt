@@ -1,3 +1,4 @@
 pub mod Loading
 pub mod Joins
 pub mod Tables
+pub mod Chaining

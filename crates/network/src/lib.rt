@@ -2,10 +2,11 @@
 // A table of 2 M or 2 M + 1 numbers has M links.
 ghost use mathlib.Core.Path.{_≡_};
 ghost use mathlib.Core.List.{[]};
-ghost use Prim.Native.Nat.{_+_, _*_, _≤_, _<_};
+ghost use Prim.Native.Nat.{suc, min, _+_, _*_, _≤_, _<_};
 ghost use lib.ListN.{length};
-ghost use Rattle.mondschein.specs.Network.{low, size, joins, joined, linkOf};
+ghost use Rattle.mondschein.specs.Network.{low, any, size, joins, joined, linkOf};
 ghost use Rattle.mondschein.specs.Judge.{linkTooLarge, selfLink, repeatedLink, wrongNames};
+ghost use Rattle.network.specs.Chains.{lowerEnd, ChainOf, Chained};
 ghost use Rattle.network.specs.Load.{networkOf, tableOf, loadAnswer, nameChecks, tableChecks};
 
 // The answer to load: N and M, or a refusal's number and place.
@@ -101,19 +102,84 @@ fn repeats_earlier(links: &[u16], i: usize) -> bool
     false
 }
 
-// Check 4: the first link that repeats an earlier one, or M.
-fn first_repeated_link(links: &[u16]) -> usize
+// The lower end of link i.
+fn lower_end(links: &[u16], i: usize) -> u16
+    requires { ⌜ 2 * i + 1 < length (now links) ⌝ }
+    ensures { λ r. ⌜ r ≡ lowerEnd (tableOf (now (links .entry))) i ⌝ }
+{
+    let x = links[2 * i];
+    let y = links[2 * i + 1];
+    if x < y {
+        return x;
+    }
+    y
+}
+
+// A link below i joins a and b, by the chain of the lower of them, which begins with h.
+fn chain_joins(links: &[u16], next: &[u16], i: usize, h: u16, a: u16, b: u16) -> bool
+    requires { ⌜ ChainOf (tableOf (now links)) (min a b) i (now next) h × (2 * i ≤ length (now links)) ⌝ }
+    ensures { λ r. ⌜ r ≡ any (λ j. joins (tableOf (now (links .entry))) j a b) i ⌝ }
+{
+    let mut k = h as usize;
+    while 0 < k {
+        if link_joins(links, k - 1, a, b) {
+            return true;
+        }
+        k = next[k - 1] as usize;
+    }
+    false
+}
+
+// Link i repeats an earlier one, in either writing, by the chains of the links below it.
+fn repeats_chained(links: &[u16], i: usize, head: &[u16], next: &[u16]) -> bool
+    requires { ⌜ Chained (tableOf (now links)) i (now head) (now next) × (2 * i + 1 < length (now links)) × (i ≤ 4096) ⌝ }
+    ensures { λ r. ⌜ r ≡ repeatedLink (tableOf (now (links .entry))) i ⌝ }
+{
+    let v = lower_end(links, i) as usize;
+    if head.len() <= v {
+        return repeats_earlier(links, i);
+    }
+    chain_joins(links, next, i, head[v], links[2 * i], links[2 * i + 1])
+}
+
+// Puts link i before the others of its lower end.
+fn chain_link(links: &[u16], i: usize, head: &mut [u16], next: &mut [u16])
+    requires { ⌜ Chained (tableOf (now links)) i (now head) (now next) × (2 * i + 1 < length (now links)) × (i < 4096) ⌝ }
+    ensures { λ _. ⌜ Chained (tableOf (now (links .entry))) (suc i) (now (head .exit)) (now (next .exit)) ⌝ }
+{
+    let v = lower_end(links, i) as usize;
+    if head.len() <= v {
+        return;
+    }
+    next[i] = head[v];
+    head[v] = (i + 1) as u16;
+}
+
+// Check 4 with chains in lent slices.
+fn first_repeat(links: &[u16], head: &mut [u16], next: &mut [u16]) -> usize
+    requires { ⌜ Chained (tableOf (now links)) 0 (now head) (now next) × (length (now links) ≤ 8193) ⌝ }
     ensures { λ r. ⌜ r ≡ low (repeatedLink (tableOf (now (links .entry)))) (size (tableOf (now (links .entry)))) ⌝ }
 {
     let m = links.len() / 2;
     let mut i = 0;
     while i < m {
-        if repeats_earlier(links, i) {
+        if repeats_chained(links, i, head, next) {
             return i;
         }
+        chain_link(links, i, head, next);
         i += 1;
     }
     i
+}
+
+// Check 4: the first link that repeats an earlier one, or M.
+fn first_repeated_link(links: &[u16]) -> usize
+    requires { ⌜ length (now links) ≤ 8193 ⌝ }
+    ensures { λ r. ⌜ r ≡ low (repeatedLink (tableOf (now (links .entry)))) (size (tableOf (now (links .entry)))) ⌝ }
+{
+    let mut head = [0u16; 1024];
+    let mut next = [0u16; 4096];
+    first_repeat(links, &mut head, &mut next)
 }
 
 // Check 5: root, first, last are not three different numbers below n.

@@ -1,0 +1,67 @@
+use native.Mathlib.Omega.{arith}
+use Rattle.network.specs.Load.{tableOf}
+use Rattle.network.proofs.Chaining.{chained-past, chained-more}
+use borrow.Author.Needs.{needs}
+use Rattle.network.proofs.chain_link.Statement.{statement}
+use Rattle.network.proofs.chain_link.Tie as tie
+
+lower-end-requires : tie.Need-lower-end-requires
+lower-end-requires c κs = search needs
+
+cast-v : tie.Need-cast-v
+cast-v c = search needs
+
+returns : tie.Need-returns
+returns c = let a = c .before .before .before .before .before .args in chained-past (tableOf (a .links .now)) (a .i) (a .head .now) (a .next .now) (c .before .before .before .before .before .pre .0) (omega (arith, c .if1 .taken, c .before .lower-end .ensures))
+
+mul-next : tie.Need-mul-next
+mul-next c = search needs
+
+slice-read-next : tie.Need-slice-read-next
+slice-read-next c = search needs
+
+mul-next-2 : tie.Need-mul-next-2
+mul-next-2 c = search needs
+
+slice-write-next : tie.Need-slice-write-next
+slice-write-next c = search needs
+
+add-head : tie.Need-add-head
+add-head c = search needs
+
+cast-head : tie.Need-cast-head
+cast-head c = search needs
+
+mul-head : tie.Need-mul-head
+mul-head c = search needs
+
+slice-write-head : tie.Need-slice-write-head
+slice-write-head c = search needs
+
+same-length : tie.Need-same-length
+same-length c = search needs
+
+same-length-2 : tie.Need-same-length-2
+same-length-2 c = search needs
+
+returns-2 : tie.Need-returns-2
+returns-2 c = let a = c .before .before .before .before .before .before .args in chained-more (tableOf (a .links .now)) (a .i) (a .head .now) (a .next .now) (c .before .before .before .before .before .before .pre .0) _ (c .before .before .lower-end .ensures) (c .before .if1 .left) (c .before .before .before .before .before .before .pre .2)
+
+pub chain-link-spec : {M : Type 1} → statement M
+chain-link-spec =
+    tie.close
+    (tie.spec
+    lower-end-requires
+    cast-v
+    returns
+    mul-next
+    slice-read-next
+    mul-next-2
+    slice-write-next
+    add-head
+    cast-head
+    mul-head
+    slice-write-head
+    same-length
+    same-length-2
+    returns-2)
