@@ -1,0 +1,66 @@
+//! A second reading of document 01, written from the papers alone.
+//!
+//! The judge and the dialogue:
+//! `lines` reads a line, `dialogue` answers a whole input, `session` is the
+//! machine of three stages, `network` has the checks of loading, `judge` the
+//! checks of ears, `order` and `tables` what a closed list gives.
+//!
+//! What checks them:
+//! `brute` has Definition 9 and demand 3 over whole lists, `follow` holds an
+//! output against them, `random`, `plan`, `damage` and `script` make inputs,
+//! `compare` and `shrink` find a difference and make it small.
+
+pub mod brute;
+pub mod compare;
+pub mod damage;
+pub mod dialogue;
+pub mod every;
+pub mod follow;
+pub mod judge;
+pub mod lines;
+pub mod network;
+pub mod order;
+pub mod plan;
+pub mod random;
+pub mod script;
+pub mod session;
+pub mod shrink;
+pub mod tables;
+
+/// A refusal is a number and a place (document 01, 'Refusals from the input').
+#[derive(Clone, Copy, Debug, PartialEq, Eq)]
+pub struct Refusal {
+    pub number: u8,
+    pub place: usize,
+}
+
+/// A refusal as the error of a call.
+pub fn refuse<T>(number: u8, place: usize) -> Result<T, Refusal> {
+    Err(Refusal { number, place })
+}
+
+/// A fault put in on purpose, so that a test can see the comparison find it.
+/// The dialogue program itself always runs with `Plant::Nothing`.
+#[derive(Clone, Copy, Debug, PartialEq, Eq, Default)]
+pub enum Plant {
+    #[default]
+    Nothing,
+    /// Refusal 10 tells the place of the latter switch.
+    WrongPlace,
+    /// A is the end with the lower number, not the earlier one in the order.
+    WrongParent,
+    /// Check 15 forgets that an end may be root.
+    WrongList,
+}
+
+impl Plant {
+    pub fn from_number(number: u64) -> Option<Plant> {
+        match number {
+            0 => Some(Plant::Nothing),
+            1 => Some(Plant::WrongPlace),
+            2 => Some(Plant::WrongParent),
+            3 => Some(Plant::WrongList),
+            _ => None,
+        }
+    }
+}

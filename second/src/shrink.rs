@@ -1,0 +1,227 @@
+//! Makes a script smaller while it still shows what it shows.
+
+use std::time::{Duration, Instant};
+
+use crate::lines::{read_form, Form};
+
+/// The smallest script found for which `still` holds, as it holds of the
+/// script given: fewer lines first, then fewer switches, then fewer and
+/// smaller numbers.
+pub fn shrink(script: &[u8], still: &mut dyn FnMut(&[u8]) -> bool) -> Vec<u8> {
+    let ends_with_feed = script.ends_with(b"\n");
+    let body = if ends_with_feed { &script[..script.len() - 1] } else { script };
+    let lines = body.split(|&byte| byte == b'\n').map(<[u8]>::to_vec).collect();
+    let until = Instant::now() + Duration::from_secs(60);
+    let mut small = Small { lines, ends_with_feed, still, until };
+    loop {
+        let before = small.lines.clone();
+        small.drop_lines();
+        small.join_switches();
+        small.drop_two_lines();
+        small.drop_numbers();
+        small.lower_numbers();
+        if small.lines == before || small.is_late() {
+            return bytes(&small.lines, ends_with_feed);
+        }
+    }
+}
+
+struct Small<'a> {
+    lines: Vec<Vec<u8>>,
+    ends_with_feed: bool,
+    still: &'a mut dyn FnMut(&[u8]) -> bool,
+    until: Instant,
+}
+
+fn bytes(lines: &[Vec<u8>], ends_with_feed: bool) -> Vec<u8> {
+    let mut bytes = lines.join(&b'\n');
+    if ends_with_feed && !lines.is_empty() {
+        bytes.push(b'\n');
+    }
+    bytes
+}
+
+impl Small<'_> {
+    fn is_late(&self) -> bool {
+        Instant::now() > self.until
+    }
+
+    /// Takes these lines when they still show it.
+    fn take(&mut self, lines: Vec<Vec<u8>>) -> bool {
+        if self.is_late() || !(self.still)(&bytes(&lines, self.ends_with_feed)) {
+            return false;
+        }
+        self.lines = lines;
+        true
+    }
+
+    /// Drops runs of lines, long runs first.
+    fn drop_lines(&mut self) {
+        let mut run = self.lines.len().div_ceil(2);
+        loop {
+            let mut from = 0;
+            while from < self.lines.len() && run > 0 {
+                let to = (from + run).min(self.lines.len());
+                let mut lines = self.lines.clone();
+                lines.drain(from..to);
+                if !self.take(lines) {
+                    from = to;
+                }
+            }
+            if run <= 1 {
+                return;
+            }
+            run /= 2;
+        }
+    }
+
+    /// Makes two joined switches one.
+    fn join_switches(&mut self) {
+        let mut at = 0;
+        while at < self.lines.len() && !self.is_late() {
+            let taken = match read_form(&self.lines[at]) {
+                Some(Form::Link(a, b)) if a != b => {
+                    let one = joined(&self.lines, a, b);
+                    let other = joined(&self.lines, b, a);
+                    self.take(one) || self.take(other)
+                }
+                _ => false,
+            };
+            if !taken {
+                at += 1;
+            }
+        }
+    }
+
+    /// Drops two lines at once, as a link and the ear that uses it.
+    fn drop_two_lines(&mut self) {
+        if self.lines.len() > 80 {
+            return;
+        }
+        let mut one = 0;
+        while one < self.lines.len() {
+            let mut dropped = false;
+            for other in one + 1..self.lines.len() {
+                let mut lines = self.lines.clone();
+                lines.remove(other);
+                lines.remove(one);
+                if self.take(lines) {
+                    dropped = true;
+                    break;
+                }
+            }
+            if !dropped {
+                one += 1;
+            }
+        }
+    }
+
+    fn drop_numbers(&mut self) {
+        for at in 0..self.lines.len() {
+            let mut place = 0;
+            while let Some(line) = without_number(&self.lines[at], place) {
+                let mut lines = self.lines.clone();
+                lines[at] = line;
+                if !self.take(lines) {
+                    place += 1;
+                }
+            }
+        }
+    }
+
+    fn lower_numbers(&mut self) {
+        for at in 0..self.lines.len() {
+            let mut place = 0;
+            while let Some((start, end)) = number_at(&self.lines[at], place) {
+                let line = self.lines[at].clone();
+                let text = String::from_utf8_lossy(&line[start..end]).into_owned();
+                let value: u64 = text.parse().unwrap_or(0);
+                for lower in [0, 1, value / 2, value.saturating_sub(1)] {
+                    if lower >= value {
+                        continue;
+                    }
+                    let mut changed = line[..start].to_vec();
+                    changed.extend(lower.to_string().into_bytes());
+                    changed.extend(&line[end..]);
+                    let mut lines = self.lines.clone();
+                    lines[at] = changed;
+                    if self.take(lines) {
+                        break;
+                    }
+                }
+                place += 1;
+            }
+        }
+    }
+}
+
+/// The script with switch `gone` made one with switch `kept`, and the highest
+/// switch, below the largest N named, numbered `gone`. Links and ears that
+/// have become one switch are dropped, and so are repeated ones.
+fn joined(lines: &[Vec<u8>], kept: u16, gone: u16) -> Vec<Vec<u8>> {
+    let forms: Vec<Option<Form>> = lines.iter().map(|line| read_form(line)).collect();
+    let nets = forms.iter().map(|form| if let Some(Form::Net { switches, .. }) = form { *switches } else { 0 });
+    let switches = nets.max().unwrap_or(0);
+    let to = |s: u16| match s {
+        s if s == gone && u32::from(kept) + 1 == u32::from(switches) => gone,
+        s if s == gone => kept,
+        s if u32::from(s) + 1 == u32::from(switches) => gone,
+        s => s,
+    };
+    let mut smaller: Vec<Vec<u8>> = Vec::new();
+    for (line, form) in lines.iter().zip(forms) {
+        let line = match form {
+            Some(Form::Net { switches, root, first, last }) => {
+                let less = switches.saturating_sub(1);
+                format!("(net {less} (root {}) (first {}) (last {}))", to(root), to(first), to(last)).into_bytes()
+            }
+            Some(Form::Link(a, b)) => {
+                let (a, b) = (to(a), to(b));
+                let repeats = [format!("(link {a} {b})").into_bytes(), format!("(link {b} {a})").into_bytes()];
+                if a == b || repeats.iter().any(|repeat| smaller.contains(repeat)) {
+                    continue;
+                }
+                repeats[0].clone()
+            }
+            Some(Form::Ear(ear)) if ear.len() > 1 => {
+                let mut ear: Vec<u16> = ear.into_iter().map(to).collect();
+                ear.dedup();
+                let write = |ear: &[u16]| {
+                    let numbers: Vec<String> = ear.iter().map(u16::to_string).collect();
+                    format!("(ear {})", numbers.join(" ")).into_bytes()
+                };
+                let back: Vec<u16> = ear.iter().rev().copied().collect();
+                if ear.len() == 1 || smaller.contains(&write(&ear)) || smaller.contains(&write(&back)) {
+                    continue;
+                }
+                write(&ear)
+            }
+            Some(Form::Walk { switch, tree }) => format!("(walk {} {tree})", to(switch)).into_bytes(),
+            _ => line.clone(),
+        };
+        smaller.push(line);
+    }
+    smaller
+}
+
+/// Start and end of the number at this place of the line.
+fn number_at(line: &[u8], place: usize) -> Option<(usize, usize)> {
+    let mut from = 0;
+    for at in 0..=place {
+        let start = from + line[from..].iter().position(u8::is_ascii_digit)?;
+        let end = line[start..].iter().position(|byte| !byte.is_ascii_digit()).map_or(line.len(), |p| start + p);
+        if at == place {
+            return Some((start, end));
+        }
+        from = end;
+    }
+    None
+}
+
+/// The line without that number and the byte before it.
+fn without_number(line: &[u8], place: usize) -> Option<Vec<u8>> {
+    let (start, end) = number_at(line, place)?;
+    let mut shorter = line[..start.saturating_sub(1)].to_vec();
+    shorter.extend(&line[end..]);
+    Some(shorter)
+}
