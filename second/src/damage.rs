@@ -239,7 +239,7 @@ pub fn damage_site(random: &mut Random, site: &mut Site) {
             let ends = [(site.root, named), (named, site.root)];
             site.links.retain(|link| !ends.contains(link));
         }
-        10 => site.switches = *random.pick(&[0, 1, 3, n.saturating_sub(1), n + 1, 1024, 1025, 65535]),
+        10 => site.switches = *random.pick(&[0, 1, 3, n.saturating_sub(1), n.saturating_add(1), 1024, 1025, 65535]),
         _ => site.links.truncate(random.within(0, MIN_LINKS)),
     }
 }

@@ -4,6 +4,9 @@ use std::time::{Duration, Instant};
 
 use crate::lines::{read_form, Form};
 
+/// A line with more numbers than this is not changed number by number.
+const MANY_NUMBERS: usize = 64;
+
 /// The smallest script found for which `still` holds, as it holds of the
 /// script given: fewer lines first, then fewer switches, then fewer and
 /// smaller numbers.
@@ -11,7 +14,7 @@ pub fn shrink(script: &[u8], still: &mut dyn FnMut(&[u8]) -> bool) -> Vec<u8> {
     let ends_with_feed = script.ends_with(b"\n");
     let body = if ends_with_feed { &script[..script.len() - 1] } else { script };
     let lines = body.split(|&byte| byte == b'\n').map(<[u8]>::to_vec).collect();
-    let until = Instant::now() + Duration::from_secs(60);
+    let until = Instant::now() + Duration::from_secs(30);
     let mut small = Small { lines, ends_with_feed, still, until };
     loop {
         let before = small.lines.clone();
@@ -60,7 +63,7 @@ impl Small<'_> {
         let mut run = self.lines.len().div_ceil(2);
         loop {
             let mut from = 0;
-            while from < self.lines.len() && run > 0 {
+            while from < self.lines.len() && !self.is_late() {
                 let to = (from + run).min(self.lines.len());
                 let mut lines = self.lines.clone();
                 lines.drain(from..to);
@@ -68,7 +71,7 @@ impl Small<'_> {
                     from = to;
                 }
             }
-            if run <= 1 {
+            if run <= 1 || self.is_late() {
                 return;
             }
             run /= 2;
@@ -99,7 +102,7 @@ impl Small<'_> {
             return;
         }
         let mut one = 0;
-        while one < self.lines.len() {
+        while one < self.lines.len() && !self.is_late() {
             let mut dropped = false;
             for other in one + 1..self.lines.len() {
                 let mut lines = self.lines.clone();
@@ -116,24 +119,38 @@ impl Small<'_> {
         }
     }
 
+    /// Drops runs of numbers of each line, long runs first; of a line with
+    /// very many numbers only long runs.
     fn drop_numbers(&mut self) {
         for at in 0..self.lines.len() {
-            let mut place = 0;
-            while let Some(line) = without_number(&self.lines[at], place) {
-                let mut lines = self.lines.clone();
-                lines[at] = line;
-                if !self.take(lines) {
-                    place += 1;
+            if self.is_late() {
+                return;
+            }
+            let count = numbers_of(&self.lines[at]).len();
+            let mut run = count.div_ceil(2);
+            while run > count / MANY_NUMBERS {
+                let mut from = 0;
+                while let Some(line) = without_numbers(&self.lines[at], from, run) {
+                    let mut lines = self.lines.clone();
+                    lines[at] = line;
+                    if !self.take(lines) {
+                        from += run;
+                    }
                 }
+                run /= 2;
             }
         }
     }
 
     fn lower_numbers(&mut self) {
         for at in 0..self.lines.len() {
-            let mut place = 0;
-            while let Some((start, end)) = number_at(&self.lines[at], place) {
+            if self.is_late() {
+                return;
+            }
+            let count = numbers_of(&self.lines[at]).len();
+            for place in 0..if count > MANY_NUMBERS { 0 } else { count } {
                 let line = self.lines[at].clone();
+                let (start, end) = numbers_of(&line)[place];
                 let text = String::from_utf8_lossy(&line[start..end]).into_owned();
                 let value: u64 = text.parse().unwrap_or(0);
                 for lower in [0, 1, value / 2, value.saturating_sub(1)] {
@@ -149,7 +166,6 @@ impl Small<'_> {
                         break;
                     }
                 }
-                place += 1;
             }
         }
     }
@@ -204,24 +220,28 @@ fn joined(lines: &[Vec<u8>], kept: u16, gone: u16) -> Vec<Vec<u8>> {
     smaller
 }
 
-/// Start and end of the number at this place of the line.
-fn number_at(line: &[u8], place: usize) -> Option<(usize, usize)> {
+/// Start and end of each number in the line.
+fn numbers_of(line: &[u8]) -> Vec<(usize, usize)> {
+    let mut numbers = Vec::new();
     let mut from = 0;
-    for at in 0..=place {
-        let start = from + line[from..].iter().position(u8::is_ascii_digit)?;
-        let end = line[start..].iter().position(|byte| !byte.is_ascii_digit()).map_or(line.len(), |p| start + p);
-        if at == place {
-            return Some((start, end));
-        }
-        from = end;
+    while let Some(start) = line[from..].iter().position(u8::is_ascii_digit).map(|at| from + at) {
+        let after = line[start..].iter().position(|byte| !byte.is_ascii_digit());
+        from = after.map_or(line.len(), |at| start + at);
+        numbers.push((start, from));
     }
-    None
+    numbers
 }
 
-/// The line without that number and the byte before it.
-fn without_number(line: &[u8], place: usize) -> Option<Vec<u8>> {
-    let (start, end) = number_at(line, place)?;
-    let mut shorter = line[..start.saturating_sub(1)].to_vec();
-    shorter.extend(&line[end..]);
-    Some(shorter)
+/// The line without `run` of its numbers, or those that are left from there,
+/// each with the byte before it.
+fn without_numbers(line: &[u8], first: usize, run: usize) -> Option<Vec<u8>> {
+    let numbers = numbers_of(line);
+    let mut shorter = Vec::new();
+    let mut from = 0;
+    for &(start, end) in numbers.get(first..)?.iter().take(run) {
+        shorter.extend(&line[from..start.saturating_sub(1).max(from)]);
+        from = end;
+    }
+    shorter.extend(&line[from..]);
+    (first < numbers.len()).then_some(shorter)
 }

@@ -8,7 +8,7 @@ use std::io::Write;
 use std::path::PathBuf;
 use std::process::ExitCode;
 
-use second_reading::compare::{examine, make_small, summary, Finding, Program};
+use second_reading::compare::{examine, make_small, summary, Finding, Kind, Program};
 use second_reading::every::{every_list, lines_for, wheel_site, worked_site};
 use second_reading::follow::Counts;
 use second_reading::lines::LINES;
@@ -51,7 +51,9 @@ fn main() -> ExitCode {
         for index in 0..numbers[1] {
             let script = script(numbers[0], index);
             if let Err(finding) = examine(&first, &second, &script, &mut counts) {
-                let name = format!("script {index} of seed {}", numbers[0]);
+                println!("script {index} of seed {}: {:?}: {}", numbers[0], finding.kind, finding.what);
+                let (index, script) = shortest(&first, &second, numbers[0], index, script, finding.kind);
+                let name = format!("script {index} of seed {}, the shortest that shows it", numbers[0]);
                 return report(&first, &second, &name, &script, &finding);
             }
         }
@@ -100,6 +102,23 @@ fn every_script() -> Vec<(String, Vec<u8>)> {
     }
     scripts.push((format!("part {}", scripts.len()), part.into_bytes()));
     scripts
+}
+
+/// The shortest script among this one and some that follow it which shows the
+/// same kind of fault: a better start for making it small.
+fn shortest(first: &Program, second: &Program, seed: u64, index: u64, found: Vec<u8>, kind: Kind) -> (u64, Vec<u8>) {
+    let mut shortest = (index, found);
+    for other in index + 1..index + 300 {
+        let script = script(seed, other);
+        if script.len() >= shortest.1.len() {
+            continue;
+        }
+        let finding = examine(first, second, &script, &mut Counts::default()).err();
+        if finding.is_some_and(|finding| finding.kind == kind) {
+            shortest = (other, script);
+        }
+    }
+    shortest
 }
 
 fn usage() -> ExitCode {
