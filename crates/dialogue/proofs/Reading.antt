@@ -12,11 +12,13 @@ use lib.ListN.{length, set, take, drop, drop-of-length-le, length-take, length-a
 use lib.Seq.{drop-cons, take-all, take-at, take-suc-set}
 use borrow.Author.Tests.{eq-eqb, ne-eqb}
 use Rattle.mondschein.specs.Network.{at}
+use Rattle.dialogue.specs.declared.Request.the-variants.{Nothing}
 use Rattle.dialogue.specs.declared.Answered.{Answered}
 use Rattle.dialogue.specs.declared.Reader.{Reader as Code·Reader}
+use Rattle.dialogue.specs.declared.Ending.{Ending}
 use Rattle.dialogue.specs.Transcript.{Turn, Reader, ended, heldLine}
 use Rattle.dialogue.specs.Dialogue.{Dialogue, turn}
-use Rattle.dialogue.specs.Answering.{dialogueIn, turnIn, readerIn, Ends}
+use Rattle.dialogue.specs.Answering.{dialogueIn, requested, Answers, readerIn, served, Ends}
 use Rattle.dialogue.proofs.Replying.{least-take}
 
 module _ (line : List ℕ) (held b : ℕ) (whole : length line ≡ 6145) where
@@ -31,28 +33,31 @@ module _ (line : List ℕ) (held b : ℕ) (whole : length line ≡ 6145) where
       ∙ take-suc-set line held b (omega arith)
       ∙ sym (take-all 6145 (take held line ++ (b ∷ [])) (omega (arith, length-append (take held line) (b ∷ []), length-take held line)))
 
-module _ (r : Code·Reader) (links line : List ℕ) where
-  pub end-quiet : (out : List ℕ) {x : Code·Reader} → (r .stopped || ltb 65535 (r .number)) ≡ true
-      → x ≡ record { kept = r .kept; number = r .number; held = r .held; written = 0; stopped = r .stopped } → Ends r links line x links out
-  unfolding ended
-  end-quiet out q e printed =
-      let t = turn (dialogueIn (r .kept) links) (r .number) (take (r .held) line) in
-      let old = readerIn r links line printed in
-      ap (λ (y : Code·Reader). readerIn y links line (printed ++ take (y .written) out)) e
-      ∙ ap (readerIn r links line) (append-nil printed)
-      ∙ sym (ap (λ (b : Bool). cond b old (record { state = t .after; number = suc (r .number); line = []; output = printed ++ t .printed; stopped = t .stops })) q)
+-- what is known once line number k has led to a turn
+abbrev after : ℕ → List ℕ → Turn Dialogue → Reader Dialogue
+after k printed t = record { state = t .after; number = suc k; line = []; output = printed ++ t .printed; stopped = t .stops }
 
-  pub end-turn : (links′ out : List ℕ) (a : Answered) {h : ℕ} → (r .stopped || ltb 65535 (r .number)) ≡ false → h ≡ min (r .held) (length line)
-      → turnIn a links′ out ≡ turn (dialogueIn (r .kept) links) (r .number) (take h line)
-      → Ends r links line (record { kept = a .kept; number = r .number + 1; held = 0; written = a .written; stopped = a .stops }) links′ out
+-- the line ends where no more is read, and where it is read
+module _ (r : Code·Reader) (links line : List ℕ) where
+  pub end-quiet : (numbers out : List ℕ) (e : Ending) → (r .stopped || ltb 65535 (r .number)) ≡ true
+      → e ≡ record { reader = record { kept = r .kept; number = r .number; held = r .held; written = 0; stopped = r .stopped }; request = Nothing }
+      → Ends r links line e numbers links out
+  unfolding ended requested
+  end-quiet numbers out e q m s printed =
+      let old = readerIn r s links line printed in
+      ap (λ (x : Ending). served (x .request) numbers (take (x .reader .written) out) (readerIn (x .reader) s links line printed)) m
+      ∙ ap (readerIn r s links line) (append-nil printed)
+      ∙ sym (ap (λ (b : Bool). cond b old (after (r .number) printed (turn (old .state) (r .number) (old .line)))) q)
+
+  pub end-turn : (numbers links′ out : List ℕ) (a : Answered) {h : ℕ} → (r .stopped || ltb 65535 (r .number)) ≡ false → h ≡ min (r .held) (length line)
+      → Answers (r .kept) links (r .number) (take h line) a numbers links′ out
+      → Ends r links line (record { reader = record { kept = a .kept; number = r .number + 1; held = 0; written = a .written; stopped = a .stops }; request = a .request }) numbers links′ out
   unfolding ended
-  end-turn links′ out a q m e printed =
-      let d = dialogueIn (r .kept) links in
-      let t = turn d (r .number) (take (r .held) line) in
-      ap (λ (k : ℕ). record { state = dialogueIn (a .kept) links′; number = k; line = []; output = printed ++ take (a .written) out; stopped = a .stops }) (add-one (r .number))
-      ∙ ap (λ (u : Turn Dialogue). record { state = u .after; number = suc (r .number); line = []; output = printed ++ u .printed; stopped = u .stops })
-      (e ∙ ap (turn d (r .number)) (least-take (r .held) line m))
-      ∙ sym (ap (λ (b : Bool). cond b (readerIn r links line printed) (record { state = t .after; number = suc (r .number); line = []; output = printed ++ t .printed; stopped = t .stops })) q)
+  end-turn numbers links′ out a q m e s printed =
+      let old = readerIn r s links line printed in
+      ap (λ (k : ℕ). served (a .request) numbers (take (a .written) out) (record { state = dialogueIn (a .kept) s links′; number = k; line = []; output = printed; stopped = a .stops })) (add-one (r .number))
+      ∙ ap (after (r .number) printed) (e s ∙ ap (turn (old .state) (r .number)) (least-take (r .held) line m))
+      ∙ sym (ap (λ (b : Bool). cond b old (after (r .number) printed (turn (old .state) (r .number) (old .line)))) q)
 
 -- a block that is held byte by byte
 module _ (l block : List ℕ) (i : ℕ) where

@@ -1,21 +1,25 @@
--- What the contracts over one line cite: the dialogue and the turn as the code holds them, and what a form that was read leads to.
+-- What the contracts over one line cite: the dialogue as the code holds it, what a line asks of the session, and what is known after it.
 -- The collected links stand at the start of a slice beside the dialogue, two numbers each; the numbers of an ear in another.
 use mathlib.Core.Path.{_≡_}
 use mathlib.Core.Bool.{Bool, false}
 use mathlib.Core.List.{List, _++_}
 use mathlib.Core.Option.{none, some}
-use Prim.Native.Nat.{ℕ, _*_}
+use Prim.Native.Nat.{ℕ, pred, _*_}
 use lib.ListN.{length, take, drop}
 use Rattle.session.specs.declared.Session.{Session}
-use Rattle.session.specs.Session.{emptySession}
 use Rattle.lines.specs.declared.Form.{Form as Code·Form}
-use Rattle.lines.specs.declared.Form.the-variants.{Net, Link, Open, Ear, Close, Walk, Clear, Unread}
-use Rattle.lines.specs.Writing.{net, link, opening, ear, closing, walk, clearing}
+use Rattle.lines.specs.declared.Form.the-variants as Code
+use Rattle.lines.specs.Writing.{Form, net, link, opening, ear, closing, walk, clearing}
 use Rattle.lines.specs.Line.{over}
 use Rattle.lines.specs.Replies.{Reply, reply}
 use Rattle.dialogue.specs.declared.Kept.{Kept}
+use Rattle.dialogue.specs.declared.Call.{Call as Code·Call}
+use Rattle.dialogue.specs.declared.Call.the-variants.{Open, Ear, Close, Clear}
+use Rattle.dialogue.specs.declared.Request.{Request}
+use Rattle.dialogue.specs.declared.Request.the-variants.{Nothing, Walk, Call}
 use Rattle.dialogue.specs.declared.Answered.{Answered}
 use Rattle.dialogue.specs.declared.Reader.{Reader as Code·Reader}
+use Rattle.dialogue.specs.declared.Ending.{Ending}
 use Rattle.dialogue.specs.declared.Held.{Held}
 use Rattle.dialogue.specs.Transcript.{Turn, Reader, ended, LineHeld}
 use Rattle.dialogue.specs.Dialogue.{Dialogue, respond, turn}
@@ -24,57 +28,99 @@ use Rattle.dialogue.specs.Dialogue.{Dialogue, respond, turn}
 abbrev pub Printed : List ℕ → List ℕ → ℕ → List ℕ → Type 0
 Printed bytes held r holds = (r ≡ length bytes) × (holds ≡ over bytes held)
 
--- the dialogue that is kept, with its links in a slice
-abbrev pub dialogueIn : Kept → List ℕ → Dialogue
-dialogueIn d links = record { n = d .n; root = d .root; first = d .first; last = d .last; links = take (2 * d .count) links; session = d .session }
+-- what is collected, with its links in a slice, and a session
+abbrev pub dialogueIn : Kept → Session → List ℕ → Dialogue
+dialogueIn d s links = record { n = d .n; root = d .root; first = d .first; last = d .last; links = take (2 * d .count) links; session = s }
 
--- a turn as the code gives it, with its links and its reply in slices
-abbrev pub turnIn : Answered → List ℕ → List ℕ → Turn Dialogue
-turnIn r links out = record { after = dialogueIn (r .kept) links; printed = take (r .written) out; stops = r .stops }
+-- nothing collected
+abbrev pub freshKept : Kept
+freshKept = record { n = 0; root = 0; first = 0; last = 0; count = 0 }
 
--- a turn that leaves the links as they are, with its reply in a slice
+-- the form of a line that makes a call, the numbers of an ear at the start of a slice
+unfoldable pub formOf : Code·Call → List ℕ → Form
+formOf Open numbers = opening
+formOf (Ear count) numbers = ear (take count numbers)
+formOf Close numbers = closing
+formOf Clear numbers = clearing
+
+-- line number k with what it asks of the session, from what it leads to without
+unfoldable pub requested : Request → List ℕ → ℕ → Turn Dialogue → Turn Dialogue
+requested Nothing numbers k t = t
+requested (Walk switch tree) numbers k t = respond (t .after) k (some (walk switch tree))
+requested (Call c) numbers k t = respond (t .after) k (some (formOf c numbers))
+
+-- what a line leads to, with its reply in a slice
 pub record Told : Type 0 where
   pub kept : Kept
+  pub request : Request
   pub printed : List ℕ
   pub stops : Bool
 
 abbrev pub toldIn : Answered → List ℕ → Told
-toldIn r out = record { kept = r .kept; printed = take (r .written) out; stops = r .stops }
+toldIn r out = record { kept = r .kept; request = r .request; printed = take (r .written) out; stops = r .stops }
 
--- the same as a turn of the dialogue, with its links in a slice
-abbrev pub turnOf : List ℕ → Told → Turn Dialogue
-turnOf links t = record { after = dialogueIn (t .kept) links; printed = t .printed; stops = t .stops }
-
--- what is kept with another session
-abbrev pub keptWith : Kept → Session → Kept
-keptWith d s = record { n = d .n; root = d .root; first = d .first; last = d .last; count = d .count; session = s }
-
--- nothing collected, and the fresh session
-abbrev pub freshKept : Kept
-freshKept = record { n = 0; root = 0; first = 0; last = 0; count = 0; session = emptySession }
-
--- a turn that makes a call: the session after it, and the reply to its answer
-abbrev pub toldBy : Kept → Session → Reply → Told
-toldBy d s r = record { kept = keptWith d s; printed = reply r; stops = false }
+-- the same as a turn of the dialogue, of line number k with a session, and with the links and the numbers of an ear in slices
+abbrev pub turnOf : Session → ℕ → List ℕ → List ℕ → Told → Turn Dialogue
+turnOf s k numbers links t = requested (t .request) numbers k (record { after = dialogueIn (t .kept) s links; printed = t .printed; stops = t .stops })
 
 -- what a form that was read leads to, the numbers of an ear at the start of a slice
 unfoldable pub respondTo : Dialogue → ℕ → Code·Form → List ℕ → Turn Dialogue
-respondTo d k Unread numbers = respond d k none
-respondTo d k (Net n root first last) numbers = respond d k (some (net n root first last))
-respondTo d k (Link a b) numbers = respond d k (some (link a b))
-respondTo d k Open numbers = respond d k (some opening)
-respondTo d k (Ear count) numbers = respond d k (some (ear (take count numbers)))
-respondTo d k Close numbers = respond d k (some closing)
-respondTo d k (Walk switch tree) numbers = respond d k (some (walk switch tree))
-respondTo d k Clear numbers = respond d k (some clearing)
+respondTo d k Code.Unread numbers = respond d k none
+respondTo d k (Code.Net n root first last) numbers = respond d k (some (net n root first last))
+respondTo d k (Code.Link a b) numbers = respond d k (some (link a b))
+respondTo d k Code.Open numbers = respond d k (some opening)
+respondTo d k (Code.Ear count) numbers = respond d k (some (ear (take count numbers)))
+respondTo d k Code.Close numbers = respond d k (some closing)
+respondTo d k (Code.Walk switch tree) numbers = respond d k (some (walk switch tree))
+respondTo d k Code.Clear numbers = respond d k (some clearing)
 
--- what is known between two bytes, with the links, the bytes of the line and what was printed in lists
-abbrev pub readerIn : Code·Reader → List ℕ → List ℕ → List ℕ → Reader Dialogue
-readerIn r links line output = record { state = dialogueIn (r .kept) links; number = r .number; line = take (r .held) line; output = output; stopped = r .stopped }
+-- line number k leads to what its form says, whatever the session
+abbrev pub Responds : Kept → List ℕ → ℕ → Code·Form → Answered → List ℕ → List ℕ → Type 0
+Responds d links k form r links′ out = (s : Session) (numbers : List ℕ) → turnOf s k numbers links′ (toldIn r out) ≡ respondTo (dialogueIn d s links) k form numbers
 
--- the line ends: what is known after it, whatever was printed before
-abbrev pub Ends : Code·Reader → List ℕ → List ℕ → Code·Reader → List ℕ → List ℕ → Type 0
-Ends r links line x links′ out = (printed : List ℕ) → readerIn x links′ line (printed ++ take (x .written) out) ≡ ended turn (readerIn r links line printed)
+-- line number k leads to what its bytes say, whatever the session
+abbrev pub Answers : Kept → List ℕ → ℕ → List ℕ → Answered → List ℕ → List ℕ → List ℕ → Type 0
+Answers d links k bytes r numbers links′ out = (s : Session) → turnOf s k numbers links′ (toldIn r out) ≡ turn (dialogueIn d s links) k bytes
+
+-- what is known between two bytes, with a session, and the links, the bytes of the line and what was printed in lists
+abbrev pub readerIn : Code·Reader → Session → List ℕ → List ℕ → List ℕ → Reader Dialogue
+readerIn r s links line output = record { state = dialogueIn (r .kept) s links; number = r .number; line = take (r .held) line; output = output; stopped = r .stopped }
+
+-- what is known once a line has what it asks of the session; a line that asks for nothing has its reply
+abbrev pub served : Request → List ℕ → List ℕ → Reader Dialogue → Reader Dialogue
+served q numbers own r =
+    let t = requested q numbers (pred (r .number)) (record { after = r .state; printed = own; stops = r .stopped }) in
+    record { state = t .after; number = r .number; line = r .line; output = r .output ++ t .printed; stopped = t .stops }
+
+-- the line ends, but for what it asks of the session, whatever the session and whatever was printed before
+abbrev pub Ends : Code·Reader → List ℕ → List ℕ → Ending → List ℕ → List ℕ → List ℕ → Type 0
+Ends r links line e numbers links′ out =
+    (s : Session) (printed : List ℕ) → served (e .request) numbers (take (e .reader .written) out) (readerIn (e .reader) s links′ line printed) ≡ ended turn (readerIn r s links line printed)
+
+-- what is known after a call or a walk, with its reply in a slice, and the session
+pub record Replied : Type 0 where
+  pub kept : Kept
+  pub number : ℕ
+  pub held : ℕ
+  pub stopped : Bool
+  pub session : Session
+  pub printed : List ℕ
+
+abbrev pub repliedIn : Code·Reader → Session → List ℕ → Replied
+repliedIn x s out = record { kept = x .kept; number = x .number; held = x .held; stopped = x .stopped; session = s; printed = take (x .written) out }
+
+-- the line goes on to be answered: what is collected, the session and the reply
+abbrev pub repliedBy : Code·Reader → Kept → Session → Reply → Replied
+repliedBy r d s w = record { kept = d; number = r .number; held = r .held; stopped = false; session = s; printed = reply w }
+
+-- the line has what it asks of the session, whatever was printed before
+abbrev pub Serves : Request → List ℕ → Code·Reader → Session → List ℕ → Code·Reader → Session → List ℕ → Type 0
+Serves q numbers r s links x s′ out =
+    (line own printed : List ℕ) → readerIn x s′ links line (printed ++ take (x .written) out) ≡ served q numbers own (readerIn r s links line printed)
+
+-- the line has the walk that it asks for, whatever is collected
+abbrev pub ServesWalk : ℕ → ℕ → Code·Reader → Session → Code·Reader → List ℕ → Type 0
+ServesWalk switch tree r s x out = (numbers links : List ℕ) → Serves (Walk switch tree) numbers r s links x s out
 
 -- before the first byte
 abbrev pub startReader : Code·Reader

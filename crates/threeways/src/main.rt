@@ -1,58 +1,75 @@
 // threeways: reads standard input in blocks, hands their bytes to the dialogue, and writes each reply as it comes.
 // Memory is fixed: one block, one line, the numbers of an ear, the links collected, one reply, and the session.
 use dialogue::Reader;
+use dialogue::Request;
+use session::Session;
 ghost use mathlib.Core.Path.{_≡_};
 ghost use Prim.Native.Nat.{_≤_};
 ghost use lib.ListN.{length};
 
-// Ends the line that is held, and writes its reply.
-fn end_line(
-    r: Reader,
-    line: &[u8],
-    numbers: &mut [u16],
-    links: &mut [u16],
-    out: &mut [u8],
-) -> Reader
-    requires { ⌜ (3072 ≤ length (now numbers)) × (length (now links) ≡ 8192) × (8192 ≤ length (now out)) ⌝ }
-{
-    let next = dialogue::end_line(r, line, numbers, links, out);
-    io::write_all(1, dialogue::reply(out, next.written));
-    next
+// What is known after a block, and the session.
+struct Taken {
+    reader: Reader,
+    session: Session,
 }
 
-// Hands the bytes of a block over, one after another.
+// Hands the bytes of a block over, line by line; a line that asks something of the session has it before the next.
 fn take_block(
     r: Reader,
+    s: Session,
     block: &[u8],
     line: &mut [u8],
     numbers: &mut [u16],
     links: &mut [u16],
     out: &mut [u8],
-) -> Reader
+) -> Taken
     requires { ⌜ (length (now line) ≡ 6145) × (3072 ≤ length (now numbers)) × (length (now links) ≡ 8192) × (8192 ≤ length (now out)) ⌝ }
 {
     let mut reader = r;
+    let mut session = s;
     let mut from = 0;
     while from < block.len() {
         let h = dialogue::hold_line(line, reader.held, block, from);
         reader.held = h.held;
         if !h.ends {
-            return reader;
+            return Taken { reader, session };
         }
-        reader = end_line(reader, line, numbers, links, out);
         from = h.next;
+        let ending = dialogue::end_line(reader, line, numbers, links, out);
+        reader = ending.reader;
+        let request = ending.request;
+        match request {
+            Request::Nothing => {}
+            Request::Walk(switch, tree) => {
+                reader = dialogue::serve_walk(reader, session, switch, tree, out);
+            }
+            Request::Call(call) => {
+                let called = dialogue::serve_call(reader, session, call, numbers, links, out);
+                reader = called.reader;
+                session = called.session;
+            }
+        }
+        io::write_all(1, dialogue::reply(out, reader.written));
     }
-    reader
+    Taken { reader, session }
 }
 
-// At the end of the input: ends a final line without line feed.
-fn finish(r: Reader, line: &[u8], numbers: &mut [u16], links: &mut [u16], out: &mut [u8])
-    requires { ⌜ (3072 ≤ length (now numbers)) × (length (now links) ≡ 8192) × (8192 ≤ length (now out)) ⌝ }
+// At the end of the input: a line feed ends a final line that lacks it.
+fn finish(
+    r: Reader,
+    s: Session,
+    line: &mut [u8],
+    numbers: &mut [u16],
+    links: &mut [u16],
+    out: &mut [u8],
+)
+    requires { ⌜ (length (now line) ≡ 6145) × (3072 ≤ length (now numbers)) × (length (now links) ≡ 8192) × (8192 ≤ length (now out)) ⌝ }
 {
     if r.held == 0 {
         return;
     }
-    end_line(r, line, numbers, links, out);
+    let feed = [b'\n'; 1];
+    take_block(r, s, &feed, line, numbers, links, out);
 }
 
 // Reads blocks to the end of the input, or until no more is read.
@@ -61,6 +78,7 @@ fn run(line: &mut [u8], numbers: &mut [u16], links: &mut [u16], out: &mut [u8])
     requires { ⌜ (length (now line) ≡ 6145) × (3072 ≤ length (now numbers)) × (length (now links) ≡ 8192) × (8192 ≤ length (now out)) ⌝ }
 {
     let mut reader = Reader::start();
+    let mut session = Session::empty();
     let mut turns = u64::MAX;
     while 0 < turns {
         turns -= 1;
@@ -68,10 +86,12 @@ fn run(line: &mut [u8], numbers: &mut [u16], links: &mut [u16], out: &mut [u8])
         let got = libc::read(0, &mut block);
         let n = io::count(got, &block);
         if n == 0 {
-            finish(reader, line, numbers, links, out);
+            finish(reader, session, line, numbers, links, out);
             return;
         }
-        reader = take_block(reader, &block[..n], line, numbers, links, out);
+        let taken = take_block(reader, session, &block[..n], line, numbers, links, out);
+        reader = taken.reader;
+        session = taken.session;
         if reader.stopped {
             return;
         }

@@ -1,10 +1,9 @@
-use mathlib.Core.Path.{ap}
-use mathlib.Core.Bool.{false}
+use mathlib.Core.Path.{ap₂, _∙_}
+use Rattle.session.specs.declared.Session.{Session}
 use Rattle.lines.specs.Replies.{cleared}
-use Rattle.session.specs.Session.{emptySession}
 use Rattle.dialogue.specs.declared.Kept.{Kept}
-use Rattle.dialogue.specs.Answering.{freshKept}
-use Rattle.dialogue.proofs.Replying.{told-reply}
+use Rattle.dialogue.specs.Answering.{repliedBy}
+use Rattle.dialogue.proofs.Replying.{replied-with}
 use borrow.Author.Needs.{needs}
 use Rattle.dialogue.proofs.clear.Statement.{statement}
 use Rattle.dialogue.proofs.clear.Tie as tie
@@ -15,11 +14,25 @@ write-cleared-requires c κs = search needs
 fresh-requires : tie.Need-fresh-requires
 fresh-requires c κs = search needs
 
+replied-requires : tie.Need-replied-requires
+replied-requires c κs = search needs
+
+empty-requires : tie.Need-empty-requires
+empty-requires c κs = search needs
+
 same-length : tie.Need-same-length
 same-length c = search needs
 
 returns : tie.Need-returns
-returns c = told-reply freshKept emptySession cleared _ _ _ (ap (λ (k : Kept). record { kept = k; written = c .before .before .before .write-cleared .result; stops = false }) (c .fresh .ensures)) (c .before .before .before .write-cleared .ensures)
+returns c = let r = c .before .before .before .before .before .before .before .before .args .r in replied-with (record { kept = c .before .before .fresh .result; number = r .number; held = r .held; written = r .written; stopped = r .stopped }) (c .empty .result) cleared _ _ _ (c .before .replied .ensures) (c .before .before .before .before .before .write-cleared .ensures) ∙ ap₂ (λ (k : Kept) (z : Session). repliedBy r k z cleared) (c .before .before .fresh .ensures) (c .empty .ensures)
 
 pub clear-spec : {M : Type 1} → statement M
-clear-spec = tie.close (tie.spec write-cleared-requires fresh-requires same-length returns)
+clear-spec =
+    tie.close
+    (tie.spec
+    write-cleared-requires
+    fresh-requires
+    replied-requires
+    empty-requires
+    same-length
+    returns)

@@ -1,10 +1,7 @@
 use Prim.Native.Nat.{_<_, _+_, _*_}
-use mathlib.Core.Path.{ap, _∙_}
 use native.Mathlib.Omega.{arith}
-use lib.ListN.{length, set}
-use Rattle.dialogue.specs.Answering.{turnOf}
+use lib.ListN.{length, set, length-set}
 use Rattle.dialogue.proofs.Replying.{link-full, link-more}
-use lib.ListN.{length-set}
 use borrow.Author.Needs.{needs}
 use Rattle.dialogue.proofs.collect_link.Statement.{statement}
 use Rattle.dialogue.proofs.collect_link.Tie as tie
@@ -16,7 +13,7 @@ same-length : tie.Need-same-length
 same-length c = search needs
 
 returns : tie.Need-returns
-returns c = let a = c .before .before .before .before .before .before .before .args in ap (turnOf (a .links .now)) (c .before .before .unread .ensures) ∙ link-full (a .d) (a .links .now) (a .number) (a .a) (a .b) (c .before .before .before .before .before .before .before .pre .0) (c .before .before .before .before .if1 .taken)
+returns c = let a = c .before .before .before .before .before .before .before .args in link-full (a .d) (a .links .now) (a .number) (a .a) (a .b) (c .before .before .before .before .before .before .before .pre .0) _ (c .before .before .unread .result) (c .before .before .before .before .if1 .taken) (c .before .before .unread .ensures)
 
 cast-i : tie.Need-cast-i
 cast-i c = search needs
@@ -42,11 +39,14 @@ slice-write-links-2 c = let a = c .before .before .before .args in let z : 2 * a
 add-kept : tie.Need-add-kept
 add-kept c = search needs
 
+asking-requires : tie.Need-asking-requires
+asking-requires c κs = search needs
+
 same-length-2 : tie.Need-same-length-2
 same-length-2 c = search needs
 
 returns-2 : tie.Need-returns-2
-returns-2 c = let a = c .before .before .before .args in link-more (a .d) (a .links .now) (a .number) (a .a) (a .b) (c .before .before .before .pre .0) (a .out .now) (c .if1 .left)
+returns-2 c = let a = c .before .before .before .before .args in link-more (a .d) (a .links .now) (a .number) (a .a) (a .b) (c .before .before .before .before .pre .0) (a .out .now) (c .asking .result) (c .before .if1 .left) (c .asking .ensures)
 
 pub collect-link-spec : {M : Type 1} → statement M
 collect-link-spec =
@@ -63,5 +63,6 @@ collect-link-spec =
     mul-links-2
     slice-write-links-2
     add-kept
+    asking-requires
     same-length-2
     returns-2)

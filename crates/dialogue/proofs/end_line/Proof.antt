@@ -10,13 +10,13 @@ quiet-requires : tie.Need-quiet-requires
 quiet-requires c κs = search needs
 
 returns : tie.Need-returns
-returns c = let a = c .before .before .before .before .before .before .args in end-quiet (a .r) (a .links .now) (a .line .now) (a .out .now) (or-left _ _ (c .before .if1 .taken)) (c .quiet .ensures)
+returns c = let a = c .before .before .before .before .before .before .args in end-quiet (a .r) (a .links .now) (a .line .now) _ (a .out .now) (c .quiet .result) (or-left _ _ (c .before .if1 .taken)) (c .quiet .ensures)
 
 quiet-requires-2 : tie.Need-quiet-requires-2
 quiet-requires-2 c κs = search needs
 
 returns-2 : tie.Need-returns-2
-returns-2 c = let a = c .before .before .before .before .before .before .before .before .args in end-quiet (a .r) (a .links .now) (a .line .now) (a .out .now) (true-or (a .r .stopped) _ (lt-ltb _ _ (c .before .if2 .taken))) (c .quiet2 .ensures)
+returns-2 c = let a = c .before .before .before .before .before .before .before .before .args in end-quiet (a .r) (a .links .now) (a .line .now) _ (a .out .now) (c .quiet2 .result) (true-or (a .r .stopped) _ (lt-ltb _ _ (c .before .if2 .taken))) (c .quiet2 .ensures)
 
 least-requires : tie.Need-least-requires
 least-requires c κs = search needs
@@ -30,8 +30,8 @@ slice-aggregate-answer c = let a = c .before .before .before .before .before .be
 answer-requires : tie.Need-answer-requires
 answer-requires c κs = search needs
 
-add-t21 : tie.Need-add-t21
-add-t21 c = search needs
+add-t23 : tie.Need-add-t23
+add-t23 c = search needs
 
 same-length : tie.Need-same-length
 same-length c = search needs
@@ -43,7 +43,7 @@ same-length-3 : tie.Need-same-length-3
 same-length-3 c = search needs
 
 returns-3 : tie.Need-returns-3
-returns-3 c = let a = c .before .before .before .before .before .before .before .before .before .before .before .before .before .before .before .before .before .before .before .before .before .before .before .args in end-turn (a .r) (a .links .now) (a .line .now) _ _ (c .before .before .before .before .before .before .before .before .answer .result) (false-or _ _ (c .before .before .before .before .before .before .before .before .before .before .before .before .before .before .before .before .before .before .if1 .left) (le-ltb _ _ (c .before .before .before .before .before .before .before .before .before .before .before .before .before .before .before .before .if2 .left))) (c .before .before .before .before .before .before .before .before .before .before .before .before .before .before .before .least .ensures) (c .before .before .before .before .before .before .before .before .answer .ensures)
+returns-3 c = let a = c .before .before .before .before .before .before .before .before .before .before .before .before .before .before .before .before .before .before .before .before .before .before .before .args in end-turn (a .r) (a .links .now) (a .line .now) _ _ _ (c .before .before .before .before .before .before .before .before .answer .result) (false-or _ _ (c .before .before .before .before .before .before .before .before .before .before .before .before .before .before .before .before .before .before .if1 .left) (le-ltb _ _ (c .before .before .before .before .before .before .before .before .before .before .before .before .before .before .before .before .if2 .left))) (c .before .before .before .before .before .before .before .before .before .before .before .before .before .before .before .least .ensures) (c .before .before .before .before .before .before .before .before .answer .ensures)
 
 pub end-line-spec : {M : Type 1} → statement M
 end-line-spec =
@@ -57,7 +57,7 @@ end-line-spec =
     cast-answer
     slice-aggregate-answer
     answer-requires
-    add-t21
+    add-t23
     same-length
     same-length-2
     same-length-3

@@ -5,7 +5,7 @@ use Rattle.mondschein.specs.Network.{at}
 use Rattle.network.specs.Load.{networkOf, loadAnswer}
 use Rattle.session.specs.Session.{loadedBy}
 use Rattle.lines.specs.Replies.{opened}
-use Rattle.dialogue.proofs.Replying.{told-call, least-length, least-take}
+use Rattle.dialogue.proofs.Replying.{replied-call, least-length, least-take}
 use borrow.Author.Needs.{needs}
 use Rattle.dialogue.proofs.open.Statement.{statement}
 use Rattle.dialogue.proofs.open.Tie as tie
@@ -20,7 +20,7 @@ least-requires : tie.Need-least-requires
 least-requires c κs = search needs
 
 slice-aggregate-load : tie.Need-slice-aggregate-load
-slice-aggregate-load c = let a = c .before .before .before .before .before .before .args in least-length (2 * a .d .count) (a .links .now) (c .before .before .least .ensures)
+slice-aggregate-load c = let a = c .before .before .before .before .before .before .args in least-length (2 * a .r .kept .count) (a .links .now) (c .before .least .ensures)
 
 load-requires : tie.Need-load-requires
 load-requires c κs = search needs
@@ -28,14 +28,14 @@ load-requires c κs = search needs
 reply-to-load-requires : tie.Need-reply-to-load-requires
 reply-to-load-requires c κs = search needs
 
-told-requires : tie.Need-told-requires
-told-requires c κs = search needs
+replied-requires : tie.Need-replied-requires
+replied-requires c κs = search needs
 
 same-length : tie.Need-same-length
 same-length c = search needs
 
 returns : tie.Need-returns
-returns c = let a = c .before .before .before .before .before .before .before .before .before .before .before .before .before .args in let d = a .d in told-call d (λ vs. opened (at vs 0) (at vs 1)) _ _ _ (loadAnswer (c .before .before .before .before .before .before .load .result .answer)) (c .before .before .before .before .before .before .load .result .session) (c .told .ensures) (c .before .before .before .before .before .before .load .ensures ∙ ap (λ (l : List ℕ). loadedBy (d .session) (networkOf (d .n) l (d .root) (d .first) (d .last))) (least-take (2 * d .count) (a .links .now) (c .before .before .before .before .before .before .before .before .before .least .ensures))) (c .before .before .before .reply-to-load .ensures)
+returns c = let a = c .before .before .before .before .before .before .before .before .before .before .before .before .before .args in let d = a .r .kept in replied-call (a .r) (λ vs. opened (at vs 0) (at vs 1)) _ _ _ (loadAnswer (c .before .before .before .before .before .before .load .result .answer)) (c .before .before .before .before .before .before .load .result .session) (c .replied .ensures) (c .before .before .before .before .before .before .load .ensures ∙ ap (λ (l : List ℕ). loadedBy (a .s) (networkOf (d .n) l (d .root) (d .first) (d .last))) (least-take (2 * d .count) (a .links .now) (c .before .before .before .before .before .before .before .before .least .ensures))) (c .before .before .before .reply-to-load .ensures)
 
 pub open-spec : {M : Type 1} → statement M
 open-spec =
@@ -47,6 +47,6 @@ open-spec =
     slice-aggregate-load
     load-requires
     reply-to-load-requires
-    told-requires
+    replied-requires
     same-length
     returns)

@@ -3,6 +3,7 @@ use mathlib.Core.Path.{ap}
 use mathlib.Core.Bool.{true}
 use mathlib.Core.List.{List}
 use Rattle.lines.specs.Replies.{unread, reply}
+use Rattle.dialogue.specs.declared.Request.the-variants.{Nothing}
 use Rattle.dialogue.proofs.Replying.{printed-back}
 use borrow.Author.Needs.{needs}
 use Rattle.dialogue.proofs.unread.Statement.{statement}
@@ -15,7 +16,7 @@ same-length : tie.Need-same-length
 same-length c = search needs
 
 returns : tie.Need-returns
-returns c = let d = c .before .before .before .before .before .args .d in ap (λ (bytes : List ℕ). record { kept = d; printed = bytes; stops = true }) (printed-back (reply (unread (c .before .before .before .before .before .args .number))) _ _ _ (c .before .before .write-unread .ensures))
+returns c = let a = c .before .before .before .before .before .args in ap (λ (bytes : List ℕ). record { kept = a .d; request = Nothing; printed = bytes; stops = true }) (printed-back (reply (unread (a .number))) _ _ _ (c .before .before .write-unread .ensures))
 
 pub unread-spec : {M : Type 1} → statement M
 unread-spec = tie.close (tie.spec write-unread-requires same-length returns)

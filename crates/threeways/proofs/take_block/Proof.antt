@@ -1,75 +1,83 @@
+use mathlib.Core.Path.{_≡_, ap, _∙_}
+use borrow.Author.Tests.{not-false}
 use Prim.Native.Nat.{_≤_, _-_}
-use mathlib.Core.Path.{_≡_}
+use mathlib.Core.Path.{_≡_, ap, _∙_}
+use mathlib.Core.Logic.{⊎-elim}
 use native.Mathlib.Omega.{arith}
 use lib.ListN.{length}
-use borrow.Author.Tests.{not-false}
 use borrow.Author.Needs.{needs}
 use Rattle.threeways.proofs.take_block.Statement.{statement}
 use Rattle.threeways.proofs.take_block.Tie as tie
 
 abbrev Inv-loop : tie.InvT-loop
-Inv-loop block line₀ numbers₀ links₀ out₀ reader₀ from₀ line numbers links out reader from = (from ≤ length block) × (length line ≡ 6145) × (length line₀ ≡ 6145) × (3072 ≤ length numbers) × (length numbers ≡ length numbers₀) × (length links ≡ 8192) × (length links₀ ≡ 8192) × (8192 ≤ length out) × (length out ≡ length out₀)
+Inv-loop block line₀ numbers₀ links₀ out₀ reader₀ session₀ from₀ line numbers links out reader session from = (from ≤ length block) × (length line ≡ 6145) × (length line₀ ≡ 6145) × (3072 ≤ length numbers) × (length numbers ≡ length numbers₀) × (length links ≡ 8192) × (length links₀ ≡ 8192) × (8192 ≤ length out) × (length out ≡ length out₀)
 
 abbrev μ-loop : tie.MeasureT-loop
-μ-loop block line₀ numbers₀ links₀ out₀ reader₀ from₀ line numbers links out reader from = length block - from
+μ-loop block line₀ numbers₀ links₀ out₀ reader₀ session₀ from₀ line numbers links out reader session from = length block - from
 
--- src/main.rt:36:5
 loop-holds : tie.Need-loop-holds Inv-loop μ-loop
 loop-holds c = search needs
 
--- src/main.rt:37:13
 hold-line-requires : tie.Need-hold-line-requires Inv-loop μ-loop
 hold-line-requires c κs = search needs
 
--- src/main.rt:40:13
 same-length : tie.Need-same-length Inv-loop μ-loop
 same-length c = search needs
 
--- src/main.rt:40:13
 same-length-2 : tie.Need-same-length-2 Inv-loop μ-loop
 same-length-2 c = search needs
 
--- src/main.rt:40:13
 same-length-3 : tie.Need-same-length-3 Inv-loop μ-loop
 same-length-3 c = search needs
 
--- src/main.rt:40:13
 same-length-4 : tie.Need-same-length-4 Inv-loop μ-loop
 same-length-4 c = search needs
 
--- src/main.rt:40:13
 returns : tie.Need-returns Inv-loop μ-loop
 returns c = search needs
 
--- src/main.rt:42:9
 end-line-requires : tie.Need-end-line-requires Inv-loop μ-loop
 end-line-requires c κs = search needs
 
--- src/main.rt:36:5
+enum-told : tie.Need-enum-told Inv-loop μ-loop
+enum-told c = search needs
+
+enum-known-request : tie.Need-enum-known-request Inv-loop μ-loop
+enum-known-request c = search needs
+
+serve-walk-requires : tie.Need-serve-walk-requires Inv-loop μ-loop
+serve-walk-requires c κs = omega (arith, c .before .before .before .before .before .before .before .before .before .before .before .end-line .kept .1 .1 .1 .1 .0, c .before .before .before .before .before .before .before .before .before .before .before .before .before .before .before .before .before .before .before .before .before .before .before .loop .inv .7)
+
+enum-known-request-2 : tie.Need-enum-known-request-2 Inv-loop μ-loop
+enum-known-request-2 c = search needs
+
+serve-call-requires : tie.Need-serve-call-requires Inv-loop μ-loop
+serve-call-requires c κs = omega (arith, c .before .before .before .before .before .before .before .before .before .before .before .before .before .end-line .kept .1 .1 .1 .1 .0, c .before .before .before .before .before .before .before .before .before .before .before .before .before .before .before .before .before .before .before .before .before .before .before .before .before .loop .inv .7)
+
+reply-requires : tie.Need-reply-requires Inv-loop μ-loop
+reply-requires c κs = search needs
+
+write-all-requires : tie.Need-write-all-requires Inv-loop μ-loop
+write-all-requires c κs = search needs
+
 loop-less : tie.Need-loop-less Inv-loop μ-loop
-loop-less c = let z = c .before .before .before .before .before .before .before .before .before .before .before .before .before .before .before .hold-line .ensures .1 .1 (not-false _ (c .before .before .before .before .before .before .before .before .before .before .before .if1 .left)) in omega (arith, z, c .before .before .before .before .before .before .before .before .before .before .before .before .before .before .before .hold-line .ensures .1 .0, c .before .before .before .before .before .before .before .before .before .before .before .before .before .before .before .before .before .loop-test .taken)
+loop-less c = let z = c .before .before .before .before .before .before .before .before .before .before .before .before .before .before .before .before .before .before .before .before .hold-line .ensures .1 .1 (not-false _ (c .before .before .before .before .before .before .before .before .before .before .before .before .before .before .before .before .if1 .left)) in omega (arith, z, c .before .before .before .before .before .before .before .before .before .before .before .before .before .before .before .before .before .before .before .before .hold-line .ensures .1 .0, c .before .before .before .before .before .before .before .before .before .before .before .before .before .before .before .before .before .before .before .before .before .before .loop-test .taken)
 
--- src/main.rt:36:5
 loop-again : tie.Need-loop-again Inv-loop μ-loop
-loop-again c = (c .before .before .before .before .before .before .before .before .before .before .before .before .before .before .before .hold-line .ensures .1 .0, search needs, c .before .before .before .before .before .before .before .before .before .before .before .before .before .before .before .before .before .before .loop .inv .2, search needs, search needs, search needs, c .before .before .before .before .before .before .before .before .before .before .before .before .before .before .before .before .before .before .loop .inv .6, search needs, search needs)
+loop-again c = let e = c .before .before .before .before .before .before .before .before .before .before .before .end-line .kept in let o : length (c .before .before .before .match .out) ≡ length (c .before .before .before .before .before .before .before .before .before .before .before .before .before .before .before .before .before .before .before .before .before .before .before .loop .out) = ⊎-elim (λ w. ap length (w .2) ∙ e .1 .1 .1 .1 .0) (⊎-elim (λ w. ap length (w .7) ∙ w .4 .kept .1 .1 .1 .1 .0 ∙ e .1 .1 .1 .1 .0) (λ w. ap length (w .11) ∙ w .6 .kept .1 .1 .1 .1 .1 .0 ∙ e .1 .1 .1 .1 .0)) (c .before .before .before .match .came) in (c .before .before .before .before .before .before .before .before .before .before .before .before .before .before .before .before .before .before .before .before .hold-line .ensures .1 .0, omega (arith, c .before .before .before .before .before .before .before .before .before .before .before .before .before .before .before .before .before .before .before .before .hold-line .kept .0, c .before .before .before .before .before .before .before .before .before .before .before .before .before .before .before .before .before .before .before .before .before .before .before .loop .inv .1), c .before .before .before .before .before .before .before .before .before .before .before .before .before .before .before .before .before .before .before .before .before .before .before .loop .inv .2, omega (arith, e .1 .1 .0, c .before .before .before .before .before .before .before .before .before .before .before .before .before .before .before .before .before .before .before .before .before .before .before .loop .inv .3), e .1 .1 .0 ∙ c .before .before .before .before .before .before .before .before .before .before .before .before .before .before .before .before .before .before .before .before .before .before .before .loop .inv .4, e .1 .1 .1 .0 ∙ c .before .before .before .before .before .before .before .before .before .before .before .before .before .before .before .before .before .before .before .before .before .before .before .loop .inv .5, c .before .before .before .before .before .before .before .before .before .before .before .before .before .before .before .before .before .before .before .before .before .before .before .loop .inv .6, omega (arith, o, c .before .before .before .before .before .before .before .before .before .before .before .before .before .before .before .before .before .before .before .before .before .before .before .loop .inv .7), o ∙ c .before .before .before .before .before .before .before .before .before .before .before .before .before .before .before .before .before .before .before .before .before .before .before .loop .inv .8)
 
--- src/main.rt:24:1
 same-length-5 : tie.Need-same-length-5 Inv-loop μ-loop
 same-length-5 c = search needs
 
--- src/main.rt:24:1
 same-length-6 : tie.Need-same-length-6 Inv-loop μ-loop
 same-length-6 c = search needs
 
--- src/main.rt:24:1
 same-length-7 : tie.Need-same-length-7 Inv-loop μ-loop
 same-length-7 c = search needs
 
--- src/main.rt:24:1
 same-length-8 : tie.Need-same-length-8 Inv-loop μ-loop
 same-length-8 c = search needs
 
--- src/main.rt:24:1
 returns-2 : tie.Need-returns-2 Inv-loop μ-loop
 returns-2 c = search needs
 
@@ -87,6 +95,13 @@ take-block-spec =
     same-length-4
     returns
     end-line-requires
+    enum-told
+    enum-known-request
+    serve-walk-requires
+    enum-known-request-2
+    serve-call-requires
+    reply-requires
+    write-all-requires
     loop-less
     loop-again
     same-length-5
