@@ -1,3 +1,4 @@
 pub mod Transcripts
 pub mod Replying
 pub mod Reading
+pub mod Blocks

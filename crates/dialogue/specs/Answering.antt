@@ -2,7 +2,7 @@
 -- The collected links stand at the start of a slice beside the dialogue, two numbers each; the numbers of an ear in another.
 use mathlib.Core.Path.{_≡_}
 use mathlib.Core.Bool.{Bool, false}
-use mathlib.Core.List.{List, _++_}
+use mathlib.Core.List.{List, [], _++_, foldl}
 use mathlib.Core.Option.{none, some}
 use Prim.Native.Nat.{ℕ, pred, _*_}
 use lib.ListN.{length, take, drop}
@@ -21,7 +21,7 @@ use Rattle.dialogue.specs.declared.Answered.{Answered}
 use Rattle.dialogue.specs.declared.Reader.{Reader as Code·Reader}
 use Rattle.dialogue.specs.declared.Ending.{Ending}
 use Rattle.dialogue.specs.declared.Held.{Held}
-use Rattle.dialogue.specs.Transcript.{Turn, Reader, ended, LineHeld}
+use Rattle.dialogue.specs.Transcript.{Turn, Reader, unprinted, ended, fed, LineHeld}
 use Rattle.dialogue.specs.Dialogue.{Dialogue, respond, turn}
 
 -- a slice that begins with the bytes, r of them, and holds else what it held
@@ -129,3 +129,7 @@ startReader = record { kept = freshKept; number = 1; held = 0; written = 0; stop
 -- what a block leaves of a line, with the line and the block in slices
 abbrev pub heldIn : Held → List ℕ → List ℕ → LineHeld
 heldIn r line block = record { line = take (r .held) line; rest = drop (r .next) block; ends = r .ends }
+
+-- a block is taken: what is known after it, but for what was printed, is what its bytes lead to, one after another
+abbrev pub Takes : Code·Reader → Session → List ℕ → List ℕ → List ℕ → Code·Reader → Session → List ℕ → List ℕ → Type 0
+Takes r s links line block x s′ links′ line′ = readerIn x s′ links′ line′ [] ≡ unprinted (foldl (fed turn) (readerIn r s links line []) block)

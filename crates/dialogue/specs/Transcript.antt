@@ -48,6 +48,10 @@ pub record Reader (A : Type 0) : Type 0 where
   pub output : List ℕ
   pub stopped : Bool
 
+-- what is known but for what was printed
+abbrev pub unprinted : {A : Type 0} → Reader A → Reader A
+unprinted r = record { state = r .state; number = r .number; line = r .line; output = []; stopped = r .stopped }
+
 -- a reader with another line
 abbrev pub withLine : {A : Type 0} → Reader A → List ℕ → Reader A
 withLine r l = record { state = r .state; number = r .number; line = l; output = r .output; stopped = r .stopped }

@@ -6,6 +6,7 @@ use session::Session;
 ghost use mathlib.Core.Path.{_≡_};
 ghost use Prim.Native.Nat.{_≤_};
 ghost use lib.ListN.{length};
+ghost use Rattle.dialogue.specs.Answering.{Takes};
 
 // What is known after a block, and the session.
 struct Taken {
@@ -24,6 +25,7 @@ fn take_block(
     out: &mut [u8],
 ) -> Taken
     requires { ⌜ (length (now line) ≡ 6145) × (3072 ≤ length (now numbers)) × (length (now links) ≡ 8192) × (8192 ≤ length (now out)) ⌝ }
+    ensures { λ t. ⌜ Takes r s (now (links .entry)) (now (line .entry)) (now (block .entry)) (t .reader) (t .session) (now (links .exit)) (now (line .exit)) ⌝ }
 {
     let mut reader = r;
     let mut session = s;
