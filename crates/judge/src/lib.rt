@@ -70,13 +70,17 @@ pub fn mark_at(marks: &[u8], i: usize) -> u8
     0
 }
 
-// 11: the first number whose link to the next is used.
-pub fn first_used(links: &[u16], used: &[u8], ear: &[u16]) -> usize
-    ensures { λ r. ⌜ r ≡ low (λ k. marked (now (used .entry)) (linkOf (tableOf (now (links .entry))) (at (now (ear .entry)) k) (at (now (ear .entry)) (k + 1)))) (pred (length (now (ear .entry)))) ⌝ }
+// 10 and 11: the first number that has no link to the next, or a used one.
+pub fn first_not_free(links: &[u16], used: &[u8], ear: &[u16]) -> usize
+    ensures { λ r. ⌜ r ≡ low (λ k. not (joined (tableOf (now (links .entry))) (at (now (ear .entry)) k) (at (now (ear .entry)) (k + 1))) || marked (now (used .entry)) (linkOf (tableOf (now (links .entry))) (at (now (ear .entry)) k) (at (now (ear .entry)) (k + 1)))) (pred (length (now (ear .entry)))) ⌝ }
 {
+    let m = links.len() / 2;
     let mut k = 0;
     while k + 1 < ear.len() {
         let l = network::link_of(links, ear[k], ear[k + 1]);
+        if m <= l {
+            return k;
+        }
         if 0 < mark_at(used, l) {
             return k;
         }
@@ -247,13 +251,14 @@ fn check_shape(n: u16, links: &[u16], used: &[u8], initial: bool, ear: &[u16]) -
     if twice < len {
         return Ear::Refused(9, twice as u16);
     }
-    let apart = first_not_joined(links, ear);
-    if apart < len - 1 {
-        return Ear::Refused(10, apart as u16);
-    }
-    let taken = first_used(links, used, ear);
-    if taken < len - 1 {
-        return Ear::Refused(11, taken as u16);
+    let pairs = len - 1;
+    let not_free = first_not_free(links, used, ear);
+    if not_free < pairs {
+        let apart = first_not_joined(links, ear);
+        if apart < pairs {
+            return Ear::Refused(10, apart as u16);
+        }
+        return Ear::Refused(11, not_free as u16);
     }
     Ear::New(new_count(initial, len as u16))
 }

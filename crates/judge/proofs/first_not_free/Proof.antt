@@ -1,0 +1,88 @@
+use Prim.Native.Nat.{ℕ, pred, _≤_, _-_}
+use mathlib.Core.Path.{_≡_, sym, ap, ap₂, _∙_}
+use mathlib.Core.Bool.{_||_}
+use native.Mathlib.Omega.{arith}
+use lib.ListN.{length}
+use borrow.Author.Needs.{needs}
+use Rattle.judge.proofs.Shape.{notFree}
+use Rattle.judge.proofs.Tests.{marked-hit, marked-miss, not-joined-hit, not-joined-miss}
+use Rattle.mondschein.specs.Network.{low, at, size}
+use Rattle.mondschein.proofs.Logic.{or-left}
+use Rattle.mondschein.proofs.Search.{rest, rest-begin, rest-hit, rest-miss, rest-end}
+use Rattle.network.specs.Load.{tableOf}
+use Rattle.judge.proofs.first_not_free.Statement.{statement}
+use Rattle.judge.proofs.first_not_free.Tie as tie
+
+abbrev Inv-loop : tie.InvT-loop
+Inv-loop links used ear m k₀ k = (k ≤ pred (length ear)) × (m ≡ size (tableOf links)) × (low (notFree links used ear) (pred (length ear)) ≡ rest (notFree links used ear) (pred (length ear)) k)
+
+abbrev μ-loop : tie.MeasureT-loop
+μ-loop links used ear m k₀ k = length ear - k
+
+loop-holds : tie.Need-loop-holds Inv-loop μ-loop
+unfolding size
+loop-holds c = (search needs, search needs, rest-begin _ _)
+
+add-loop : tie.Need-add-loop Inv-loop μ-loop
+add-loop c = search needs
+
+mul-link-of : tie.Need-mul-link-of Inv-loop μ-loop
+mul-link-of c = search needs
+
+shared-slice-read-link-of : tie.Need-shared-slice-read-link-of Inv-loop μ-loop
+shared-slice-read-link-of c = search needs
+
+add-link-of : tie.Need-add-link-of Inv-loop μ-loop
+add-link-of c = search needs
+
+mul-link-of-2 : tie.Need-mul-link-of-2 Inv-loop μ-loop
+mul-link-of-2 c = search needs
+
+shared-slice-read-link-of-2 : tie.Need-shared-slice-read-link-of-2 Inv-loop μ-loop
+shared-slice-read-link-of-2 c = search needs
+
+link-of-requires : tie.Need-link-of-requires Inv-loop μ-loop
+link-of-requires c κs = search needs
+
+returns : tie.Need-returns Inv-loop μ-loop
+returns c = sym (c .before .before .before .before .before .loop .inv .2 ∙ rest-hit _ _ _ (search needs) (or-left _ _ (not-joined-hit _ _ _ (c .before .before .before .before .before .loop .inv .1) (c .before .link-of .ensures) (c .if1 .taken))))
+
+mark-at-requires : tie.Need-mark-at-requires Inv-loop μ-loop
+mark-at-requires c κs = search needs
+
+returns-2 : tie.Need-returns-2 Inv-loop μ-loop
+returns-2 c = sym (c .before .before .before .before .before .before .before .loop .inv .2 ∙ rest-hit _ _ _ (search needs) (ap₂ _||_ (not-joined-miss _ _ _ (c .before .before .before .before .before .before .before .loop .inv .1) (c .before .before .before .link-of .ensures) (c .before .before .if1 .left)) (marked-hit (c .before .mark-at .ensures ∙ ap (λ (l : ℕ). at (c .before .before .before .before .before .before .before .before .before .before .before .args .used .now) l) (c .before .before .before .link-of .ensures)) (omega (arith, c .if2 .taken)))))
+
+add-k : tie.Need-add-k Inv-loop μ-loop
+add-k c = search needs
+
+loop-less : tie.Need-loop-less Inv-loop μ-loop
+loop-less c = search needs
+
+loop-again : tie.Need-loop-again Inv-loop μ-loop
+loop-again c = (search needs, c .before .before .before .before .before .before .before .loop .inv .1, c .before .before .before .before .before .before .before .loop .inv .2 ∙ rest-miss _ _ _ (search needs) (ap₂ _||_ (not-joined-miss _ _ _ (c .before .before .before .before .before .before .before .loop .inv .1) (c .before .before .before .link-of .ensures) (c .before .before .if1 .left)) (marked-miss (c .before .mark-at .ensures ∙ ap (λ (l : ℕ). at (c .before .before .before .before .before .before .before .before .before .before .before .args .used .now) l) (c .before .before .before .link-of .ensures)) (omega (arith, c .if2 .left)))))
+
+returns-3 : tie.Need-returns-3 Inv-loop μ-loop
+returns-3 c = sym (c .before .loop .inv .2 ∙ rest-end _ _ _ (search needs))
+
+pub first-not-free-spec : {M : Type 1} → statement M
+first-not-free-spec =
+    tie.close
+    (tie.spec
+    Inv-loop
+    μ-loop
+    loop-holds
+    add-loop
+    mul-link-of
+    shared-slice-read-link-of
+    add-link-of
+    mul-link-of-2
+    shared-slice-read-link-of-2
+    link-of-requires
+    returns
+    mark-at-requires
+    returns-2
+    add-k
+    loop-less
+    loop-again
+    returns-3)
