@@ -23,7 +23,7 @@ ghost use Rattle.dialogue.specs.Transcript.{heldLine};
 ghost use Rattle.dialogue.specs.Dialogue.{replyTo};
 ghost use Rattle.dialogue.specs.declared.Call.the-variants as Call·;
 ghost use Rattle.dialogue.specs.declared.Request.the-variants as Request·;
-ghost use Rattle.dialogue.specs.Answering.{Printed, freshKept, toldIn, Responds, Answers, Ends, repliedIn, repliedBy, Serves, ServesWalk, startReader, heldIn};
+ghost use Rattle.dialogue.specs.Answering.{Printed, freshKept, toldIn, Responds, Answers, Ends, repliedIn, repliedBy, Serves, ServesWalk, startReader, heldIn, TakesLines};
 
 // What is collected: the numbers of the last net line, and the count of links.
 pub struct Kept {
@@ -50,7 +50,7 @@ impl Kept {
 }
 
 // A call that gives another session; of an ear the count of its numbers.
-pub enum Call {
+enum Call {
     Open,
     Ear(u16),
     Close,
@@ -58,7 +58,7 @@ pub enum Call {
 }
 
 // What a line asks of the session: nothing, the walk of a switch in a tree, or a call.
-pub enum Request {
+enum Request {
     Nothing,
     Walk(u16, u16),
     Call(Call),
@@ -66,11 +66,11 @@ pub enum Request {
 
 // What a line leads to: what is collected after it, what it asks of the session, the count of the bytes of its reply, and whether no
 // more is read. A line that asks something of the session has its reply from there.
-pub struct Answered {
-    pub kept: Kept,
-    pub request: Request,
-    pub written: usize,
-    pub stops: bool,
+struct Answered {
+    kept: Kept,
+    request: Request,
+    written: usize,
+    stops: bool,
 }
 
 // The lower of two numbers.
@@ -204,7 +204,7 @@ fn respond(d: Kept, number: u16, form: Form, links: &mut [u16], out: &mut [u8]) 
 }
 
 // Line number `number` with these bytes: what is collected after it, what it asks of the session, and else its reply.
-pub fn answer(
+fn answer(
     d: Kept,
     number: u16,
     bytes: &[u8],
@@ -247,7 +247,7 @@ impl Reader {
 }
 
 // Holds one more byte of a line, and gives the count of its bytes; 6,145 of a line are enough.
-pub fn hold(line: &mut [u8], held: usize, byte: u8) -> usize
+fn hold(line: &mut [u8], held: usize, byte: u8) -> usize
     requires { ⌜ length (now line) ≡ 6145 ⌝ }
     ensures { λ r. ⌜ take r (now (line .exit)) ≡ take 6145 (take held (now (line .entry)) ++ (byte ∷ [])) ⌝ }
 {
@@ -259,14 +259,14 @@ pub fn hold(line: &mut [u8], held: usize, byte: u8) -> usize
 }
 
 // What a block leaves of a line: the count of its bytes that are held, the place after them in the block, and whether it ends there.
-pub struct Held {
-    pub held: usize,
-    pub next: usize,
-    pub ends: bool,
+struct Held {
+    held: usize,
+    next: usize,
+    ends: bool,
 }
 
 // Holds the bytes of a block from a place on, up to the next line feed.
-pub fn hold_line(line: &mut [u8], held: usize, block: &[u8], from: usize) -> Held
+fn hold_line(line: &mut [u8], held: usize, block: &[u8], from: usize) -> Held
     requires { ⌜ (length (now line) ≡ 6145) × (from ≤ length (now block)) ⌝ }
     ensures { λ r. ⌜ heldIn r (now (line .exit)) (now (block .entry)) ≡ heldLine (take held (now (line .entry))) (drop from (now (block .entry))) ⌝ }
     ensures { λ r. ⌜ (r .next ≤ length (now (block .entry))) × ((r .ends) ≡ true → from < r .next) ⌝ }
@@ -293,9 +293,9 @@ pub fn hold_line(line: &mut [u8], held: usize, block: &[u8], from: usize) -> Hel
 }
 
 // What is known after a line, and what the line asks of the session.
-pub struct Ending {
-    pub reader: Reader,
-    pub request: Request,
+struct Ending {
+    reader: Reader,
+    request: Request,
 }
 
 // No more is read: nothing changes, and there is no reply.
@@ -309,7 +309,7 @@ fn quiet(r: Reader) -> Ending
 }
 
 // The line that is held ends: what is known after it, what it asks of the session, and else its reply.
-pub fn end_line(
+fn end_line(
     r: Reader,
     line: &[u8],
     numbers: &mut [u16],
@@ -341,9 +341,9 @@ pub fn end_line(
 }
 
 // What is known after a call, and the session that it gives.
-pub struct Called {
-    pub reader: Reader,
-    pub session: Session,
+struct Called {
+    reader: Reader,
+    session: Session,
 }
 
 // What is known once a reply is written.
@@ -413,7 +413,7 @@ fn clear(r: Reader, out: &mut [u8]) -> Called
 }
 
 // Makes the call that a line asks for: what is known after it, the session that it gives, and its reply.
-pub fn serve_call(
+fn serve_call(
     r: Reader,
     s: Session,
     call: Call,
@@ -433,7 +433,7 @@ pub fn serve_call(
 }
 
 // Gives the walk that a line asks for: what is known after it, and its reply.
-pub fn serve_walk(r: Reader, s: Session, switch: u16, tree: u16, out: &mut [u8]) -> Reader
+fn serve_walk(r: Reader, s: Session, switch: u16, tree: u16, out: &mut [u8]) -> Reader
     requires { ⌜ 8192 ≤ length (now out) ⌝ }
     ensures { λ x. ⌜ ServesWalk switch tree r s x (now (out .exit)) ⌝ }
 {
@@ -449,4 +449,66 @@ pub fn reply(out: &[u8], written: usize) -> &[u8]
 {
     let count = least(written, out.len());
     &out[..count]
+}
+
+// What is known where the lines of a block have been taken, the session there, the place in the block, and the count of the bytes of
+// their replies.
+pub struct Taken {
+    pub reader: Reader,
+    pub session: Session,
+    pub next: usize,
+    pub written: usize,
+}
+
+// Takes the lines of a block from a place on, each with what it asks of the session, as long as there is room for a reply.
+pub fn take_lines(
+    r: Reader,
+    s: Session,
+    block: &[u8],
+    from: usize,
+    line: &mut [u8],
+    numbers: &mut [u16],
+    links: &mut [u16],
+    out: &mut [u8],
+) -> Taken
+    requires { ⌜ (from ≤ length (now block)) × (length (now line) ≡ 6145) × (3072 ≤ length (now numbers)) × (length (now links) ≡ 8192) × (8192 ≤ length (now out)) ⌝ }
+    ensures { λ t. ⌜ TakesLines r s (now (links .entry)) (now (line .entry)) (now (block .entry)) from (t .reader) (t .session) (now (links .exit)) (now (line .exit)) (t .next) (take (t .written) (now (out .exit))) ⌝ }
+    ensures { λ t. ⌜ (t .next ≤ length (now (block .entry))) × (from < length (now (block .entry)) → from < t .next) ⌝ }
+{
+    let mut reader = r;
+    let mut session = s;
+    let mut next = from;
+    let mut written = 0;
+    while next < block.len() {
+        if out.len() - written < 8192 {
+            break;
+        }
+        let h = hold_line(line, reader.held, block, next);
+        reader.held = h.held;
+        next = h.next;
+        if !h.ends {
+            break;
+        }
+        let ending = end_line(reader, line, numbers, links, &mut out[written..]);
+        reader = ending.reader;
+        let request = ending.request;
+        match request {
+            Request::Nothing => {}
+            Request::Walk(switch, tree) => {
+                reader = serve_walk(reader, session, switch, tree, &mut out[written..]);
+            }
+            Request::Call(call) => {
+                let called = serve_call(reader, session, call, numbers, links, &mut out[written..]);
+                reader = called.reader;
+                session = called.session;
+            }
+        }
+        written += least(reader.written, out.len() - written);
+    }
+    Taken {
+        reader,
+        session,
+        next,
+        written,
+    }
 }

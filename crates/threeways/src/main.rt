@@ -1,7 +1,6 @@
-// threeways: reads standard input in blocks, hands their bytes to the dialogue, and writes each reply as it comes.
-// Memory is fixed: one block, one line, the numbers of an ear, the links collected, one reply, and the session.
+// threeways: reads standard input in blocks, hands their bytes to the dialogue, and writes the replies before it reads on.
+// Memory is fixed: one block, one line, the numbers of an ear, the links collected, replies, and the session.
 use dialogue::Reader;
-use dialogue::Request;
 use session::Session;
 ghost use mathlib.Core.Path.{_≡_};
 ghost use Prim.Native.Nat.{_≤_};
@@ -9,12 +8,12 @@ ghost use lib.ListN.{length};
 ghost use Rattle.dialogue.specs.Answering.{Takes};
 
 // What is known after a block, and the session.
-struct Taken {
+struct Known {
     reader: Reader,
     session: Session,
 }
 
-// Hands the bytes of a block over, line by line; a line that asks something of the session has it before the next.
+// Takes the lines of a block, and writes their replies.
 fn take_block(
     r: Reader,
     s: Session,
@@ -23,37 +22,21 @@ fn take_block(
     numbers: &mut [u16],
     links: &mut [u16],
     out: &mut [u8],
-) -> Taken
+) -> Known
     requires { ⌜ (length (now line) ≡ 6145) × (3072 ≤ length (now numbers)) × (length (now links) ≡ 8192) × (8192 ≤ length (now out)) ⌝ }
-    ensures { λ t. ⌜ Takes r s (now (links .entry)) (now (line .entry)) (now (block .entry)) (t .reader) (t .session) (now (links .exit)) (now (line .exit)) ⌝ }
+    ensures { λ k. ⌜ Takes r s (now (links .entry)) (now (line .entry)) (now (block .entry)) (k .reader) (k .session) (now (links .exit)) (now (line .exit)) ⌝ }
 {
     let mut reader = r;
     let mut session = s;
     let mut from = 0;
     while from < block.len() {
-        let h = dialogue::hold_line(line, reader.held, block, from);
-        reader.held = h.held;
-        if !h.ends {
-            return Taken { reader, session };
-        }
-        from = h.next;
-        let ending = dialogue::end_line(reader, line, numbers, links, out);
-        reader = ending.reader;
-        let request = ending.request;
-        match request {
-            Request::Nothing => {}
-            Request::Walk(switch, tree) => {
-                reader = dialogue::serve_walk(reader, session, switch, tree, out);
-            }
-            Request::Call(call) => {
-                let called = dialogue::serve_call(reader, session, call, numbers, links, out);
-                reader = called.reader;
-                session = called.session;
-            }
-        }
-        io::write_all(1, dialogue::reply(out, reader.written));
+        let taken = dialogue::take_lines(reader, session, block, from, line, numbers, links, out);
+        io::write_all(1, dialogue::reply(out, taken.written));
+        reader = taken.reader;
+        session = taken.session;
+        from = taken.next;
     }
-    Taken { reader, session }
+    Known { reader, session }
 }
 
 // At the end of the input: a line feed ends a final line that lacks it.
@@ -91,9 +74,9 @@ fn run(line: &mut [u8], numbers: &mut [u16], links: &mut [u16], out: &mut [u8])
             finish(reader, session, line, numbers, links, out);
             return;
         }
-        let taken = take_block(reader, session, &block[..n], line, numbers, links, out);
-        reader = taken.reader;
-        session = taken.session;
+        let known = take_block(reader, session, &block[..n], line, numbers, links, out);
+        reader = known.reader;
+        session = known.session;
         if reader.stopped {
             return;
         }
@@ -104,6 +87,6 @@ fn main() {
     let mut line = [0u8; 6145];
     let mut numbers = [0u16; 3072];
     let mut links = [0u16; 8192];
-    let mut out = [0u8; 8192];
+    let mut out = [0u8; 16384];
     run(&mut line, &mut numbers, &mut links, &mut out);
 }
