@@ -130,11 +130,11 @@ startReader = record { kept = freshKept; number = 1; held = 0; written = 0; stop
 abbrev pub heldIn : Held → List ℕ → List ℕ → LineHeld
 heldIn r line block = record { line = take (r .held) line; rest = drop (r .next) block; ends = r .ends }
 
--- a block is taken: what is known after it, but for what was printed, is what its bytes lead to, one after another
-abbrev pub Takes : Code·Reader → Session → List ℕ → List ℕ → List ℕ → Code·Reader → Session → List ℕ → List ℕ → Type 0
-Takes r s links line block x s′ links′ line′ = readerIn x s′ links′ line′ [] ≡ unprinted (foldl (fed turn) (readerIn r s links line []) block)
-
 -- the lines of a block are taken from a place on: what is known where they end, with what they print, leads on as what was known before
 abbrev pub TakesLines : Code·Reader → Session → List ℕ → List ℕ → List ℕ → ℕ → Code·Reader → Session → List ℕ → List ℕ → ℕ → List ℕ → Type 0
 TakesLines r s links line block from x s′ links′ line′ next output =
     (printed : List ℕ) → foldl (fed turn) (readerIn r s links line printed) (drop from block) ≡ foldl (fed turn) (readerIn x s′ links′ line′ (printed ++ output)) (drop next block)
+
+-- a block is taken: what is known after it, but for what was printed, is what its bytes lead to, one after another
+abbrev pub Takes : Code·Reader → Session → List ℕ → List ℕ → List ℕ → Code·Reader → Session → List ℕ → List ℕ → Type 0
+Takes r s links line block x s′ links′ line′ = readerIn x s′ links′ line′ [] ≡ unprinted (foldl (fed turn) (readerIn r s links line []) block)

@@ -1,4 +1,4 @@
-// One line of the dialogue: what it does to the network that is collected, what it asks of the session, and the reply to it.
+// The lines of the dialogue: what each does to the network that is collected, what it asks of the session, and its reply; then a block of them.
 // The collected links stand at the start of a slice, two numbers each; a reply is written at the start of another.
 use judge::Ear;
 use lines::Form;
@@ -36,7 +36,7 @@ pub struct Kept {
 
 impl Kept {
     // Nothing collected.
-    pub fn fresh() -> Self
+    fn fresh() -> Self
         ensures { λ r. ⌜ r ≡ freshKept ⌝ }
     {
         Kept {
