@@ -21,7 +21,7 @@ cast-t14 c = search needs
 
 returns : tie.Need-returns
 unfolding newCount
-returns c = let a = c .before .before .before .before .before .args in sym (later-past (a .n) (a .links .now) (a .root) 0 (a .last) (a .births .now) (a .ear .now) ∙ check-hit 13 _ _ _ (c .before .first-unborn-end .ensures) (c .if1 .taken))
+returns c = let a = c .before .before .before .before .before .args in sym (later-past (a .n) (a .links .now) (a .root) 0 (a .last) (a .births .now) (a .ear .now) ∙ check-hit 13 _ _ _ (c .before .first-unborn-end .ensures) (omega arith))
 
 sub-part : tie.Need-sub-part
 sub-part c = search needs
@@ -49,7 +49,7 @@ cast-t20 c = search needs
 
 returns-2 : tie.Need-returns-2
 unfolding newCount
-returns-2 c = let a = c .before .before .before .before .before .before .before .before .args in sym (later-past (a .n) (a .links .now) (a .root) 0 (a .last) (a .births .now) (a .ear .now) ∙ check-miss 13 _ _ _ (c .before .before .before .before .first-unborn-end .ensures) (c .before .before .before .if1 .left) ∙ check-hit 14 _ _ _ (part-hit (a .ear .now) (marked (a .births .now)) (c .before .first-born .ensures) (omega arith)) (omega arith))
+returns-2 c = let a = c .before .before .before .before .before .before .before .before .args in sym (later-past (a .n) (a .links .now) (a .root) 0 (a .last) (a .births .now) (a .ear .now) ∙ check-miss 13 _ _ _ (c .before .before .before .before .first-unborn-end .ensures) (omega arith) ∙ check-hit 14 _ _ _ (part-hit (a .ear .now) (marked (a .births .now)) (c .before .first-born .ensures) (omega arith)) (omega arith))
 
 last-too-early-requires : tie.Need-last-too-early-requires
 last-too-early-requires c κs = search needs
@@ -59,7 +59,7 @@ cast-t21 c = search needs
 
 returns-3 : tie.Need-returns-3
 unfolding newCount
-returns-3 c = let a = c .before .before .before .before .before .before .before .before .before .before .args in sym (later-past (a .n) (a .links .now) (a .root) 0 (a .last) (a .births .now) (a .ear .now) ∙ check-miss 13 _ _ _ (c .before .before .before .before .before .before .first-unborn-end .ensures) (c .before .before .before .before .before .if1 .left) ∙ check-miss 14 _ _ _ (part-miss (a .ear .now) (marked (a .births .now)) (c .before .before .before .first-born .ensures) (omega arith)) (omega arith) ∙ check-hit 15 _ _ _ (c .before .last-too-early .ensures) (c .if3 .taken))
+returns-3 c = let a = c .before .before .before .before .before .before .before .before .before .before .args in sym (later-past (a .n) (a .links .now) (a .root) 0 (a .last) (a .births .now) (a .ear .now) ∙ check-miss 13 _ _ _ (c .before .before .before .before .before .before .first-unborn-end .ensures) (omega arith) ∙ check-miss 14 _ _ _ (part-miss (a .ear .now) (marked (a .births .now)) (c .before .before .before .first-born .ensures) (omega arith)) (omega arith) ∙ check-hit 15 _ _ _ (c .before .last-too-early .ensures) (omega arith))
 
 first-cut-off-requires : tie.Need-first-cut-off-requires
 first-cut-off-requires c κs = search needs
@@ -75,7 +75,7 @@ cast-t23 c = search needs
 
 returns-4 : tie.Need-returns-4
 unfolding newCount
-returns-4 c = let a = c .before .before .before .before .before .before .before .before .before .before .before .before .args in sym (later-past (a .n) (a .links .now) (a .root) 0 (a .last) (a .births .now) (a .ear .now) ∙ check-miss 13 _ _ _ (c .before .before .before .before .before .before .before .before .first-unborn-end .ensures) (c .before .before .before .before .before .before .before .if1 .left) ∙ check-miss 14 _ _ _ (part-miss (a .ear .now) (marked (a .births .now)) (c .before .before .before .before .before .first-born .ensures) (omega arith)) (omega arith) ∙ check-miss 15 _ _ _ (c .before .before .before .last-too-early .ensures) (c .before .before .if3 .left) ∙ check-hit 16 _ _ _ (part-hit (a .ear .now) (cutOff (a .n) (a .last) (a .links .now) (a .births .now) (a .ear .now)) (c .before .first-cut-off .ensures) (omega arith)) (omega arith))
+returns-4 c = let a = c .before .before .before .before .before .before .before .before .before .before .before .before .args in sym (later-past (a .n) (a .links .now) (a .root) 0 (a .last) (a .births .now) (a .ear .now) ∙ check-miss 13 _ _ _ (c .before .before .before .before .before .before .before .before .first-unborn-end .ensures) (omega arith) ∙ check-miss 14 _ _ _ (part-miss (a .ear .now) (marked (a .births .now)) (c .before .before .before .before .before .first-born .ensures) (omega arith)) (omega arith) ∙ check-miss 15 _ _ _ (c .before .before .before .last-too-early .ensures) (omega arith) ∙ check-hit 16 _ _ _ (part-hit (a .ear .now) (cutOff (a .n) (a .last) (a .links .now) (a .births .now) (a .ear .now)) (c .before .first-cut-off .ensures) (omega arith)) (omega arith))
 
 sub-t15 : tie.Need-sub-t15
 sub-t15 c = search needs
@@ -85,7 +85,7 @@ cast-t24 c = search needs
 
 returns-5 : tie.Need-returns-5
 unfolding newCount
-returns-5 c = let a = c .before .before .before .before .before .before .before .before .before .before .before .before .args in ap (λ (k : ℕ). given (k ∷ [])) (let z : length (a .ear .now) - 2 ≡ pred (pred (length (a .ear .now))) = omega arith in z) ∙ sym (later-past (a .n) (a .links .now) (a .root) 0 (a .last) (a .births .now) (a .ear .now) ∙ check-miss 13 _ _ _ (c .before .before .before .before .before .before .before .before .first-unborn-end .ensures) (c .before .before .before .before .before .before .before .if1 .left) ∙ check-miss 14 _ _ _ (part-miss (a .ear .now) (marked (a .births .now)) (c .before .before .before .before .before .first-born .ensures) (omega arith)) (omega arith) ∙ check-miss 15 _ _ _ (c .before .before .before .last-too-early .ensures) (c .before .before .if3 .left) ∙ check-miss 16 _ _ _ (part-miss (a .ear .now) (cutOff (a .n) (a .last) (a .links .now) (a .births .now) (a .ear .now)) (c .before .first-cut-off .ensures) (omega arith)) (omega arith))
+returns-5 c = let a = c .before .before .before .before .before .before .before .before .before .before .before .before .args in ap (λ (k : ℕ). given (k ∷ [])) (let z : length (a .ear .now) - 2 ≡ pred (pred (length (a .ear .now))) = omega arith in z) ∙ sym (later-past (a .n) (a .links .now) (a .root) 0 (a .last) (a .births .now) (a .ear .now) ∙ check-miss 13 _ _ _ (c .before .before .before .before .before .before .before .before .first-unborn-end .ensures) (omega arith) ∙ check-miss 14 _ _ _ (part-miss (a .ear .now) (marked (a .births .now)) (c .before .before .before .before .before .first-born .ensures) (omega arith)) (omega arith) ∙ check-miss 15 _ _ _ (c .before .before .before .last-too-early .ensures) (omega arith) ∙ check-miss 16 _ _ _ (part-miss (a .ear .now) (cutOff (a .n) (a .last) (a .links .now) (a .births .now) (a .ear .now)) (c .before .first-cut-off .ensures) (omega arith)) (omega arith))
 
 pub check-later-spec : {M : Type 1} → statement M
 check-later-spec =
