@@ -2,7 +2,7 @@ use Prim.Native.Nat.{_-_}
 use mathlib.Core.Path.{_≡_, sym, _∙_}
 use native.Mathlib.Omega.{arith}
 use borrow.Author.Tests.{eq-eqb, ne-eqb}
-use lib.ListN.{length, drop}
+use lib.ListN.{length, drop, getD}
 use borrow.Author.Needs.{needs}
 use Rattle.lines.specs.Reading.{after}
 use Rattle.lines.proofs.Places.{after-short, after-other, after-more, after-all}
@@ -28,7 +28,7 @@ shared-slice-read-if2-2 : tie.Need-shared-slice-read-if2-2 Inv-loop μ-loop
 shared-slice-read-if2-2 c = search needs
 
 returns-2 : tie.Need-returns-2 Inv-loop μ-loop
-returns-2 c = after-other _ _ (c .before .before .before .before .before .loop .k) (c .before .before .before .before .before .loop .next) (c .before .before .before .before .loop-test .taken) (omega arith) (ne-eqb _ _ (c .if2 .taken)) ∙ sym (c .before .before .before .before .before .loop .inv)
+returns-2 c = let a = c .before .before .before .before .before .before .args in after-other _ _ (c .before .before .before .before .before .loop .k) (c .before .before .before .before .before .loop .next) (c .before .before .before .before .loop-test .taken) (omega arith) (ne-eqb (getD (a .bytes .now) (c .before .before .before .before .before .loop .next) 0) (getD (a .part .now) (c .before .before .before .before .before .loop .k) 0) (λ e. omega (arith, c .if2 .taken, e))) ∙ sym (c .before .before .before .before .before .loop .inv)
 
 add-next : tie.Need-add-next Inv-loop μ-loop
 add-next c = search needs
@@ -40,7 +40,7 @@ loop-less : tie.Need-loop-less Inv-loop μ-loop
 loop-less c = search needs
 
 loop-again : tie.Need-loop-again Inv-loop μ-loop
-loop-again c = c .before .before .before .before .before .loop .inv ∙ after-more _ _ (c .before .before .before .before .before .loop .k) (c .before .before .before .before .before .loop .next) (c .before .before .before .before .loop-test .taken) (omega arith) (eq-eqb _ _ (c .if2 .left))
+loop-again c = let a = c .before .before .before .before .before .before .args in c .before .before .before .before .before .loop .inv ∙ after-more _ _ (c .before .before .before .before .before .loop .k) (c .before .before .before .before .before .loop .next) (c .before .before .before .before .loop-test .taken) (omega arith) (eq-eqb (getD (a .bytes .now) (c .before .before .before .before .before .loop .next) 0) (getD (a .part .now) (c .before .before .before .before .before .loop .k) 0) (omega (arith, c .if2 .left)))
 
 returns-3 : tie.Need-returns-3 Inv-loop μ-loop
 returns-3 c = sym (c .before .loop .inv ∙ after-all _ _ (c .before .loop .k) (c .loop-test .left))

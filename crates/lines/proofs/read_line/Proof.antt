@@ -1,4 +1,6 @@
 use mathlib.Core.Path.{_∙_}
+use native.Mathlib.Omega.{arith}
+use lib.ListN.{length}
 use borrow.Author.Tests.{lt-ltb, le-ltb}
 use Rattle.lines.specs.Reading.{reading}
 use borrow.Author.Needs.{needs}
@@ -7,10 +9,10 @@ use Rattle.lines.proofs.read_line.Tie as tie
 
 returns : tie.Need-returns
 unfolding reading
-returns c = let t = lt-ltb _ _ (c .if1 .taken) in (simp t, simp t)
+returns c = let t = lt-ltb 6144 (length (c .before .before .before .args .bytes .now)) (omega (arith, c .if1 .taken)) in (simp t, simp t)
 
 any-form-requires : tie.Need-any-form-requires
-any-form-requires c κs = search needs
+any-form-requires c κs = omega arith
 
 same-length : tie.Need-same-length
 same-length c = search needs
