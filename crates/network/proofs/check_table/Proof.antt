@@ -1,4 +1,5 @@
 use mathlib.Core.Path.{sym, _∙_}
+use native.Mathlib.Omega.{arith}
 use borrow.Author.Needs.{needs}
 use Rattle.mondschein.specs.Network.{size, former, latter, joins}
 use Rattle.mondschein.specs.Judge.{linkTooLarge, selfLink, repeatedLink}
@@ -15,7 +16,7 @@ cast-t12 c = search needs
 
 returns : tie.Need-returns
 unfolding tableChecks linkTooLarge former latter size
-returns c = sym (check-hit _ _ _ _ (c .before .first-link-too-large .ensures) (c .if1 .taken))
+returns c = sym (check-hit 2 _ _ _ (c .before .first-link-too-large .ensures) (omega arith))
 
 first-self-link-requires : tie.Need-first-self-link-requires
 first-self-link-requires c κs = search needs
@@ -25,7 +26,7 @@ cast-t13 c = search needs
 
 returns-2 : tie.Need-returns-2
 unfolding tableChecks linkTooLarge selfLink former latter size
-returns-2 c = sym (check-miss _ _ _ _ (c .before .before .before .first-link-too-large .ensures) (c .before .before .if1 .left) ∙ check-hit _ _ _ _ (c .before .first-self-link .ensures) (c .if2 .taken))
+returns-2 c = sym (check-miss 2 _ _ _ (c .before .before .before .first-link-too-large .ensures) (omega arith) ∙ check-hit 3 _ _ _ (c .before .first-self-link .ensures) (omega arith))
 
 first-repeated-link-requires : tie.Need-first-repeated-link-requires
 first-repeated-link-requires c κs = search needs
@@ -35,14 +36,14 @@ cast-t14 c = search needs
 
 returns-3 : tie.Need-returns-3
 unfolding tableChecks linkTooLarge selfLink repeatedLink joins former latter size
-returns-3 c = sym (check-miss _ _ _ _ (c .before .before .before .before .before .first-link-too-large .ensures) (c .before .before .before .before .if1 .left) ∙ check-miss _ _ _ _ (c .before .before .before .first-self-link .ensures) (c .before .before .if2 .left) ∙ check-hit _ _ _ _ (c .before .first-repeated-link .ensures) (c .if3 .taken))
+returns-3 c = sym (check-miss 2 _ _ _ (c .before .before .before .before .before .first-link-too-large .ensures) (omega arith) ∙ check-miss 3 _ _ _ (c .before .before .before .first-self-link .ensures) (omega arith) ∙ check-hit 4 _ _ _ (c .before .first-repeated-link .ensures) (omega arith))
 
 check-names-requires : tie.Need-check-names-requires
 check-names-requires c κs = search needs
 
 returns-4 : tie.Need-returns-4
 unfolding tableChecks linkTooLarge selfLink repeatedLink joins former latter size
-returns-4 c = c .check-names .ensures ∙ sym (check-miss _ _ _ _ (c .before .before .before .before .before .before .first-link-too-large .ensures) (c .before .before .before .before .before .if1 .left) ∙ check-miss _ _ _ _ (c .before .before .before .before .first-self-link .ensures) (c .before .before .before .if2 .left) ∙ check-miss _ _ _ _ (c .before .before .first-repeated-link .ensures) (c .before .if3 .left))
+returns-4 c = c .check-names .ensures ∙ sym (check-miss 2 _ _ _ (c .before .before .before .before .before .before .first-link-too-large .ensures) (omega arith) ∙ check-miss 3 _ _ _ (c .before .before .before .before .first-self-link .ensures) (omega arith) ∙ check-miss 4 _ _ _ (c .before .before .first-repeated-link .ensures) (omega arith))
 
 pub check-table-spec : {M : Type 1} → statement M
 check-table-spec =

@@ -51,7 +51,7 @@ link-joins-requires c κs = search needs
 
 returns : tie.Need-returns Inv-loop μ-loop
 unfolding repeatedLink former latter
-returns c = sym (true-any _ _ _ (c .before .before .loop-test .taken) (sym (c .before .link-joins .ensures) ∙ c .if1 .taken))
+returns c = sym (true-any _ (c .before .before .before .before .before .before .before .args .i) (c .before .before .before .loop .j) (omega arith) (sym (c .before .link-joins .ensures) ∙ c .if1 .taken))
 
 add-j : tie.Need-add-j Inv-loop μ-loop
 add-j c = search needs

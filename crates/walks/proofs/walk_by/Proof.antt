@@ -19,10 +19,10 @@ cast-if1 : tie.Need-cast-if1
 cast-if1 c = search needs
 
 returns : tie.Need-returns
-returns c = let a = c .before .before .before .before .before .args in walk-refused (a .root) (at (a .row .now)) (a .n) (a .v) (a .out .now) (c .before .before .most-links .ensures) (c .before .links-left .ensures) (c .if1 .taken)
+returns c = let a = c .before .before .before .before .before .args in walk-refused (a .root) (at (a .row .now)) (a .n) (a .v) (a .out .now) (c .before .before .most-links .ensures) (c .before .links-left .ensures) (omega arith)
 
 write-walk-requires : tie.Need-write-walk-requires
-write-walk-requires c κs = search needs
+write-walk-requires c κs = omega arith
 
 same-length : tie.Need-same-length
 same-length c = search needs
