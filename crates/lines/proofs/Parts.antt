@@ -11,7 +11,7 @@ use lib.ListN.{length, length-append}
 use lib.Seq.{append-snoc}
 use borrow.Author.Tests.{lt-ltb, le-ltb, ltb-false, eq-eqb, ne-eqb, eqb-true, eqb-false}
 use Rattle.mondschein.proofs.Logic.{clash, less?}
-use Rattle.lines.specs.Writing.{ascii, decimal, decimalIn}
+use Rattle.lines.specs.Writing.{decimal, decimalIn}
 use Rattle.lines.specs.Reading.{after, more, ends, Taken, digits, number, spacedNumber, namedNumber}
 use Rattle.lines.proofs.Decimals.{decimal-digit, decimal-tenth, decimal-more, decimal-some}
 
@@ -64,11 +64,6 @@ digits-bytes v (x ∷ s) h g m =
           sym (append-snoc (decimal v) x s) ∙ ap (λ (y : ℕ). (decimal v ++ (y ∷ [])) ++ s) (sym q) ∙ ap (λ (d : List ℕ). d ++ s) (sym (decimal-more v (x - 48) h (omega arith))) ∙ e,
       n,
     )
-
--- a number that begins with the digit 0 has no other: of 07 the 0 is read, and the 7 is left
-pub zero-alone : number (ascii "07") ≡ record { value = 0; rest = ascii "7" }
-unfolding number digits
-zero-alone = refl
 
 -- the number that was read stands in its writing
 pub number-bytes : (s : List ℕ) → more (number s .rest) ≡ true → (s ≡ decimal (number s .value) ++ number s .rest) × (number s .value ≤ 65535)
