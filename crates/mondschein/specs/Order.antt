@@ -34,6 +34,10 @@ extend (x ∷ o) e =
 unfoldable pub order : Ears → List ℕ
 order es = foldl extend [] es
 
+-- the order after the first i ears
+abbrev pub orderAfter : Ears → ℕ → List ℕ
+orderAfter es i = order (take i es)
+
 -- ear i from A to B; the first ear as written, from root to first
 unfoldable pub course : Ears → ℕ → List ℕ
 course es zero = earAt es zero

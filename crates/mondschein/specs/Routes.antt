@@ -4,9 +4,9 @@ use mathlib.Core.Path.{_≡_}
 use mathlib.Core.Logic.{_⊎_, _≢_, _↔_}
 use mathlib.Core.List.{List, [], _∷_, _++_, reverse}
 use Prim.Native.Nat.{ℕ, zero, suc, pred, _≤_, _<_}
-use lib.ListN.{length, take}
+use lib.ListN.{length}
 use Rattle.mondschein.specs.Network.{Network, at, In, Simple, size, Joins, Adjacent, Along, Ears, earAt}
-use Rattle.mondschein.specs.Order.{between, order}
+use Rattle.mondschein.specs.Order.{between}
 use Rattle.mondschein.specs.Mondschein.{Birth}
 
 abbrev pub Tree : ℕ → Type 0
@@ -34,21 +34,23 @@ pub record Inserted (o e o′ : List ℕ) : Type 0 where
   pub old : o ≡ front ++ (at course 0 ∷ back)
   pub grown : o′ ≡ front ++ (at course 0 ∷ (between course ++ back))
 
-module _ (net : Network) (es : Ears) where
-  -- the order of the switches of es
+-- the order of switches: `o i` is the order after the first i ears
+module _ (net : Network) (es : Ears) (o : ℕ → List ℕ) where
   pub record OrderRules : Type 0 where
-    pub starts : order (take 1 es) ≡ earAt es 0
-    pub inserts : (i : ℕ) → 0 < i → i < length es → Inserted (order (take i es)) (earAt es i) (order (take (suc i) es))
-    pub begins : at (order es) 0 ≡ net .root
-    pub ends : at (order es) (pred (length (order es))) ≡ net .first
-    pub once : Simple (order es)
-    pub holdsBorn : (x : ℕ) → In (order es) x ↔ ((i : ℕ) × (i < length es) × In (earAt es i) x)
+    -- it begins as the first ear as written
+    pub starts : o 1 ≡ earAt es 0
+    pub inserts : (i : ℕ) → 0 < i → i < length es → Inserted (o i) (earAt es i) (o (suc i))
+    pub begins : at (o (length es)) 0 ≡ net .root
+    pub ends : at (o (length es)) (pred (length (o (length es)))) ≡ net .first
+    pub once : Simple (o (length es))
+    pub holdsBorn : (x : ℕ) → In (o (length es)) x ↔ ((i : ℕ) × (i < length es) × In (earAt es i) x)
 
   -- c is ear i from A to B; the first ear as written
   abbrev pub Course : ℕ → List ℕ → Type 0
   Course zero c = c ≡ earAt es 0
-  Course (suc i) c = FromA (order (take (suc i) es)) (earAt es (suc i)) c
+  Course (suc i) c = FromA (o (suc i)) (earAt es (suc i)) c
 
+module _ (net : Network) (es : Ears) where
   -- y is a neighbour of v born in a later ear
   pub record LaterBorn (v y : ℕ) : Type 0 where
     pub below : y < net .n
@@ -61,11 +63,11 @@ module _ (net : Network) (es : Ears) where
     pub last : p (net .last) ≡ net .root
     pub other : (v : ℕ) → v < net .n → v ≢ net .root → v ≢ net .last → LaterBorn v (p v)
 
-  -- the three tables
-  pub record TableRules (p : ℕ → ℕ → ℕ) : Type 0 where
+  -- the three tables, with the order o
+  pub record TableRules (o : ℕ → List ℕ) (p : ℕ → ℕ → ℕ) : Type 0 where
     pub root : (t : ℕ) → Tree t → p t (net .root) ≡ net .root
-    pub tree1 : (v : ℕ) → v < net .n → v ≢ net .root → (i : ℕ) × (c : List ℕ) × Birth es i v × Course i c × Next c (p 1 v) v
-    pub tree2 : (v : ℕ) → v < net .n → v ≢ net .root → v ≢ net .first → (i : ℕ) × (c : List ℕ) × Birth es i v × Course i c × Next c v (p 2 v)
+    pub tree1 : (v : ℕ) → v < net .n → v ≢ net .root → (i : ℕ) × (c : List ℕ) × Birth es i v × Course net es o i c × Next c (p 1 v) v
+    pub tree2 : (v : ℕ) → v < net .n → v ≢ net .root → v ≢ net .first → (i : ℕ) × (c : List ℕ) × Birth es i v × Course net es o i c × Next c v (p 2 v)
     pub first2 : p 2 (net .first) ≡ net .root
     pub tree3 : Third (p 3)
     pub lowest3 : (v : ℕ) → v < net .n → v ≢ net .root → v ≢ net .last → (y : ℕ) → LaterBorn v y → p 3 v ≤ y
