@@ -177,6 +177,18 @@ pub record Fits (o e : List ℕ) : Type 0 where
 held : (o : List ℕ) {x y : ℕ} {b : Bool} → x ≡ y → holds o y ≡ b → holds o x ≡ b
 held o e h = ap (holds o) e ∙ h
 
+pub turned-simple : (e c : List ℕ) → Simple e → Turned e c → Simple c
+turned-simple e c s t j k l m q =
+    ⊎-elim
+    (λ w. s j k (omega (arith, t .long)) (omega (arith, t .long)) (sym (w j (omega (arith, t .long))) ∙ q ∙ w k (omega (arith, t .long))))
+    (λ w.
+    omega (
+      arith,
+      t .long,
+      s (length e - suc j) (length e - suc k) (omega (arith, t .long)) (omega (arith, t .long)) (sym (w j (omega (arith, t .long))) ∙ q ∙ w k (omega (arith, t .long))),
+    ))
+    (t .ways)
+
 pub turned-fits : (o e c : List ℕ) → Fits o e → Turned e c → Fits o c
 turned-fits o e c f t = go (t .ways)
   where
@@ -184,7 +196,7 @@ turned-fits o e c f t = go (t .ways)
     go (inl w) =
         record {
           two = omega (arith, t .long, f .two);
-          simple = λ j k l m q. f .simple j k (omega (arith, t .long)) (omega (arith, t .long)) (sym (w j (omega (arith, t .long))) ∙ q ∙ w k (omega (arith, t .long)));
+          simple = turned-simple e c (f .simple) t;
           start = held o (w 0 (omega (arith, f .two))) (f .start);
           end = held o (at-same c _ _ (ap pred (t .long)) ∙ w (pred (length e)) (omega (arith, f .two))) (f .end);
           inner = λ k l m. held o (w k (omega (arith, t .long))) (f .inner k l (omega (arith, t .long)));
@@ -192,13 +204,7 @@ turned-fits o e c f t = go (t .ways)
     go (inr w) =
         record {
           two = omega (arith, t .long, f .two);
-          simple = λ j k l m q.
-              omega (
-                arith,
-                t .long,
-                f .simple (length e - suc j) (length e - suc k) (omega (arith, t .long)) (omega (arith, t .long))
-                    (sym (w j (omega (arith, t .long))) ∙ q ∙ w k (omega (arith, t .long))),
-              );
+          simple = turned-simple e c (f .simple) t;
           start = held o (w 0 (omega (arith, f .two)) ∙ at-same e _ _ (omega arith)) (f .end);
           end = held o (at-same c _ _ (ap pred (t .long)) ∙ w (pred (length e)) (omega (arith, f .two)) ∙ at-same e _ 0 (omega (arith, f .two))) (f .start);
           inner = λ k l m. held o (w k (omega (arith, t .long))) (f .inner (length e - suc k) (omega (arith, t .long)) (omega (arith, t .long)));
