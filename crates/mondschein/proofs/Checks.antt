@@ -21,7 +21,8 @@ Clear c bad = (k : ℕ) → k < c → bad k ≡ false
 pub check-pass : (num c : ℕ) (bad : ℕ → Bool) (after : Answer) → Clear c bad → check num c bad after ≡ after
 unfolding check
 check-pass num c bad after h =
-    rw (low-none bad c h, le-ltb c c (omega arith))
+    ap (λ (k : ℕ). cond (ltb k c) (refused num k) after) (low-none bad c h)
+    ∙ ap (λ (b : Bool). cond b (refused num c) after) (le-ltb c c (omega arith))
 
 pub check-given : (num c : ℕ) (bad : ℕ → Bool) (after : Answer) (vs : List ℕ) → check num c bad after ≡ given vs → Clear c bad × (after ≡ given vs)
 unfolding check
@@ -112,7 +113,7 @@ module _ (net : Network) (es : Ears) (b : Bool) (e : List ℕ) where
   -- 16 does not ask last
   last-exempt : (k : ℕ) → at e k ≡ net .last → noneUnborn net (born es) (used net es) b e k ≡ false
   unfolding noneUnborn
-  last-exempt k q = false-and (isNew b (length e) k) _ (λ _. rw (eq-eqb (at e k) (net .last) q))
+  last-exempt k q = false-and (isNew b (length e) k) _ (λ _. false-and (not (eqb (at e k) (net .last))) _ (λ d. clash (eq-eqb (at e k) (net .last) q) (not-true _ d)))
 
   pub given-passed : (vs : List ℕ) → verdict net (born es) (used net es) b e ≡ given vs → Passed net es b e
   unfolding verdict wrongLength tooLarge repeated notJoined usedAlready wrongCycle unbornEnd bornBetween lastMisplaced otherNew otherUnborn rootEnd noneUnborn

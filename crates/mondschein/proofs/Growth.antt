@@ -2,7 +2,7 @@
 -- in it from A to B; and what one more ear does to the order and to trees 1 and 2.
 use mathlib.Core.Path.{_≡_, refl, sym, ap, ap₂, _∙_, subst}
 use mathlib.Core.Logic.{inl, ⊎-elim, _≢_}
-use mathlib.Core.Bool.{true, false, cond}
+use mathlib.Core.Bool.{Bool, true, false, cond}
 use mathlib.Core.List.{List, [], _∷_, _++_, foldl, foldl-append}
 use Prim.Native.Nat.{ℕ, zero, suc, pred, _≤_, _<_}
 use native.Mathlib.Omega.{arith}
@@ -218,7 +218,13 @@ module _ (net : Network) (es : Ears) (e : List ℕ) (x : ℕ) (d : x ≢ net .ro
 
   pub parent1-new : parent1 net (es ++ (e ∷ [])) x ≡ at c (pred (position c x))
   unfolding parent1
-  parent1-new = simp (ne-eqb x (net .root) d, birth-new es e x u h, course-new es e)
+  parent1-new =
+      ap (λ (b : Bool). cond b x (at (course more (birth more x)) (pred (position (course more (birth more x)) x)))) (ne-eqb x (net .root) d)
+      ∙ ap (λ (i : ℕ). at (course more i) (pred (position (course more i) x))) (birth-new es e x u h)
+      ∙ ap (λ (l : List ℕ). at l (pred (position l x))) (course-new es e)
+    where
+      more : Ears
+      more = es ++ (e ∷ [])
 
   pub parent2-new : x ≢ net .first → parent2 net (es ++ (e ∷ [])) x ≡ at c (suc (position c x))
   unfolding parent2
