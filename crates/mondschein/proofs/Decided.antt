@@ -1,7 +1,7 @@
 -- Document 01's rules of the order and of the tables leave no choice: whatever obeys them is what is computed.
 -- So no rule can be left out of them.
-use mathlib.Core.Path.{_≡_, refl, sym, ap, ap₂, _∙_, subst}
-use mathlib.Core.Logic.{⊎-elim, _≢_}
+use mathlib.Core.Path.{_≡_, sym, ap, ap₂, _∙_, subst}
+use mathlib.Core.Logic.{⊎-elim}
 use mathlib.Core.Bool.{Bool, true, cond}
 use mathlib.Core.List.{List, [], _∷_, _++_, reverse, append-assoc}
 use Prim.Native.Nat.{ℕ, zero, suc, pred, _+_, _<_}
@@ -10,7 +10,7 @@ use lib.ListN.{length, take, drop, length-append}
 use lib.Seq.{getD-append-add, take-at, drop-at}
 use borrow.Author.Tests.{lt-ltb}
 use Rattle.mondschein.specs.Network.{Network, at, Simple, size, Proper, Ears, earAt, birth, used}
-use Rattle.mondschein.specs.Order.{position, fromA, between, extend, order, orderAfter, course, parent1, parent2, parent3By, parentOf}
+use Rattle.mondschein.specs.Order.{position, fromA, between, extend, orderAfter, course, parent1, parent2, parent3By, parentOf}
 use Rattle.mondschein.specs.Mondschein.{Birth}
 use Rattle.mondschein.specs.Routes.{Tree, Earlier, Next, FromA, Inserted, OrderRules, Course, TableRules}
 use Rattle.mondschein.specs.Lists.{RulesDecide}

@@ -1,0 +1,160 @@
+-- Document 01's impostors, each as a program that is the machine but for one thing, with the demand that it does not meet.
+-- So no demand holds of every program.
+use mathlib.Core.Path.{_≡_, refl, ap}
+use mathlib.Core.Logic.{inr}
+use mathlib.Core.Bool.{false, cond}
+use mathlib.Core.List.{List, [], _∷_, _++_, map}
+use Prim.Native.Nat.{ℕ}
+use native.Mathlib.Omega.{arith}
+use lib.Dec.{eqb}
+use lib.ListN.{length}
+use Rattle.mondschein.specs.Network.{low, any, count, Network, at, holds, size, former, latter, joins, joined, passes, linkOf, Ears, born, birth, trail, used, isNew, newCount, newSwitches}
+use Rattle.mondschein.specs.Judge.{Answer, given, refused, check, wrongSize, linkTooLarge, selfLink, repeatedLink, wrongNames, missingLink, loading, wrongLength, tooLarge, repeated, notJoined, usedAlready, wrongCycle, unbornEnd, bornBetween, otherNew, otherUnborn, rootEnd, lastMisplaced, noneUnborn, verdict, judge, closing}
+use Rattle.mondschein.specs.Order.{position, fromA, between, extend, order, course, parent1, parent2, parent3By, parentOf}
+use Rattle.mondschein.specs.Outcome.{Outcome, written, unknown}
+use Rattle.mondschein.specs.Mondschein.{Mondschein}
+use Rattle.mondschein.proofs.Outcomes.{never}
+use Rattle.mondschein.proofs.Excluded.{link-in-three-trees}
+use Rattle.machine.specs.Machine.{plan, closedPlan, State, empty, closed, byState, Call, load, ear, close, clear, answers, longer, told, tells, parentCall, walkCall, orderOf, sizeOf, Program, historyFrom, history}
+use Rattle.machine.specs.Demands.{Demand2, Demand3}
+use Rattle.machine.proofs.Demand2.{plain}
+
+-- to unfold this is to unfold the judge, the tables and the machine
+computed : Unit {0}
+unfolding low any count holds size former latter joins joined passes linkOf born birth trail used isNew newCount newSwitches check wrongSize linkTooLarge selfLink repeatedLink wrongNames missingLink loading wrongLength tooLarge repeated notJoined usedAlready wrongCycle unbornEnd bornBetween otherNew otherUnborn rootEnd lastMisplaced noneUnborn verdict judge closing position fromA between extend order course parent1 parent2 parent3By parentOf unknown answers longer told tells parentCall historyFrom
+computed = tt
+
+-- document 01's first network, and the list that closes there
+abbrev net : Network
+net = record { n = 4; links = 0 ∷ 1 ∷ 0 ∷ 2 ∷ 0 ∷ 3 ∷ 1 ∷ 2 ∷ 1 ∷ 3 ∷ 2 ∷ 3 ∷ []; root = 0; first = 1; last = 3 }
+
+abbrev cycle : List ℕ
+cycle = 0 ∷ 2 ∷ 1 ∷ []
+
+abbrev later : Ears
+later = (2 ∷ 3 ∷ 1 ∷ []) ∷ (0 ∷ 3 ∷ []) ∷ []
+
+abbrev calls : Ears → List Call
+calls es = load net ∷ (map ear es ++ (close ∷ []))
+
+-- the first value of an answer
+abbrev value : Answer → ℕ
+value (given vs) = at vs 0
+value (refused num place) = 0
+
+sequence : Mondschein net (cycle ∷ later)
+unfolding computed
+sequence = plain net (cycle ∷ later) .0 refl .1
+
+-- the machine with other answers to calls
+abbrev answering : (Call → State → Answer) → Program
+answering f =
+    record {
+      Session = State;
+      fresh = empty;
+      after = λ s c. tells c (f c s) s;
+      answer = λ s c. f c s;
+      parent = parentCall;
+      walk = walkCall;
+      order = orderOf;
+      size = sizeOf;
+    }
+
+-- another answer to ears, and to close
+abbrev toEars : (State → List ℕ → Answer) → Call → State → Answer
+toEars f (load n) s = answers (load n) s
+toEars f (ear e) s = f s e
+toEars f close s = answers close s
+toEars f clear s = answers clear s
+
+abbrev toClose : Answer → Call → State → Answer
+toClose a (load n) s = answers (load n) s
+toClose a (ear e) s = answers (ear e) s
+toClose a close s = a
+toClose a clear s = answers clear s
+
+-- the machine with other parents and walks
+abbrev reading : (State → ℕ → ℕ → Answer) → (State → ℕ → ℕ → List ℕ → Outcome (List ℕ)) → Program
+reading f g =
+    record {
+      Session = State;
+      fresh = empty;
+      after = λ s c. tells c (answers c s) s;
+      answer = λ s c. answers c s;
+      parent = f;
+      walk = g;
+      order = orderOf;
+      size = sizeOf;
+    }
+
+-- it closes the list as the machine does
+closed-after : (f : State → ℕ → ℕ → Answer) (g : State → ℕ → ℕ → List ℕ → Outcome (List ℕ)) → history (reading f g) (calls (cycle ∷ later)) ≡ closed (closedPlan net (cycle ∷ later))
+unfolding computed
+closed-after f g = refl
+
+-- a judge that turns every planner away
+pub turns-all-away : Demand2 (answering (toEars (λ s e. refused 16 0))) → ⊥
+unfolding computed
+turns-all-away d = never (d .judges (load net ∷ []) (plan net []) refl .accepts cycle later sequence)
+
+-- one that judges the first ear and waves the rest through: last's ear ends at root
+abbrev waving : State → List ℕ → Answer
+waving s e = byState (refused 19 0) (λ p. cond (eqb (length (p .ears)) 0) (judge (p .net) [] e) (given (newCount false (length e) ∷ []))) (λ p. refused 22 0) s
+
+abbrev waved : Ears
+waved = cycle ∷ (2 ∷ 3 ∷ 0 ∷ []) ∷ (1 ∷ 3 ∷ []) ∷ []
+
+pub waves-the-rest-through : Demand2 (answering (toEars waving)) → ⊥
+unfolding computed
+waves-the-rest-through d =
+    let (proper, M, _) = d .sound (calls waved) (closedPlan net waved) refl in
+    let z : _≡_ {A = ℕ} 1 2 = ap (byState 0 (λ p. 1) (λ p. 2)) (plain net waved .1 (proper, M)) in
+    absurd (omega arith)
+
+-- one that hands out the same table for every tree
+abbrev oneTable : State → ℕ → ℕ → Answer
+oneTable s v t = parentCall s v 1
+
+pub same-table : Demand3 (reading oneTable walkCall) → ⊥
+unfolding computed
+same-table d =
+    let (q, w, e, x, r) = d (calls (cycle ∷ later)) (closedPlan net (cycle ∷ later)) (closed-after oneTable walkCall) in
+    link-in-three-trees net q w r 1 (omega arith) (λ t. 2)
+    (λ t m. let z : 0 ≡ q t 2 = ap value (e t 2 m (omega arith)) in (omega arith, (λ (k : 2 ≡ 0). omega arith), inr (z, refl)))
+
+-- one that reports success and leaves the session as it found it
+pub leaves-the-session : Demand2 (record { Session = State; fresh = empty; after = λ s c. s; answer = λ s c. answers c s; parent = parentCall; walk = walkCall; order = orderOf; size = sizeOf }) → ⊥
+unfolding computed
+leaves-the-session d = never (d .judges (load net ∷ []) (plan net []) refl .accepts cycle later sequence)
+
+-- one that makes up the number of new switches
+abbrev recount : Answer → Answer
+recount (given vs) = given (0 ∷ [])
+recount (refused num place) = refused num place
+
+pub makes-up-the-number : Demand2 (answering (toEars (λ s e. recount (answers (ear e) s)))) → ⊥
+unfolding computed
+makes-up-the-number d =
+    let z : _≡_ {A = ℕ} 0 3 = ap value (d .judges (load net ∷ []) (plan net []) refl .accepts cycle later sequence) in
+    absurd (omega arith)
+
+-- ones that say 18 for a slice that is long enough, or 21 or 23 with nothing missing
+abbrev noRoom : State → ℕ → ℕ → List ℕ → Outcome (List ℕ)
+noRoom s v t out = record { answer = refused 18 0; after = out }
+
+pub says-18 : Demand3 (reading parentCall noRoom) → ⊥
+says-18 d =
+    let (q, w, e, x, r) = d (calls (cycle ∷ later)) (closedPlan net (cycle ∷ later)) (closed-after parentCall noRoom) in
+    never (ap (λ (o : Outcome (List ℕ)). o .answer) (x .written 1 0 (omega arith) (omega arith) (w 1 0) (omega arith)))
+
+abbrev noEntry : State → ℕ → ℕ → Answer
+noEntry s v t = refused 21 0
+
+pub says-21 : Demand3 (reading noEntry walkCall) → ⊥
+says-21 d =
+    let (q, w, e, x, r) = d (calls (cycle ∷ later)) (closedPlan net (cycle ∷ later)) (closed-after noEntry walkCall) in
+    never (e 1 0 (omega arith) (omega arith))
+
+pub says-23 : Demand2 (answering (toClose (refused 23 0))) → ⊥
+unfolding computed
+says-23 d = never (d .judges (load net ∷ map ear (cycle ∷ later)) (plan net (cycle ∷ later)) refl .closes sequence)
