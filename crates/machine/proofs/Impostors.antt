@@ -145,7 +145,7 @@ noRoom s v t out = record { answer = refused 18 0; after = out }
 pub says-18 : Demand3 (reading parentCall noRoom) → ⊥
 says-18 d =
     let (q, w, e, x, r) = d (calls (cycle ∷ later)) (closedPlan net (cycle ∷ later)) (closed-after parentCall noRoom) in
-    never (ap (λ (o : Outcome (List ℕ)). o .answer) (x .written 1 0 (omega arith) (omega arith) (w 1 0) (omega arith)))
+    never (ap (λ (o : Outcome (List ℕ)). o .answer) (x .longEnough 1 0 (omega arith) (omega arith) (w 1 0) (omega arith)))
 
 abbrev noEntry : State → ℕ → ℕ → Answer
 noEntry s v t = refused 21 0

@@ -27,7 +27,7 @@ pub at-born : (es : Ears) (x i : ℕ) → i < length es → holds (earAt es i) x
 unfolding born
 at-born es x i l h = true-any _ (length es) i l h
 
-pub unborn-at : (es : Ears) (x : ℕ) → born es x ≡ false → (i : ℕ) → i < length es → holds (earAt es i) x ≡ false
+unborn-at : (es : Ears) (x : ℕ) → born es x ≡ false → (i : ℕ) → i < length es → holds (earAt es i) x ≡ false
 unfolding born
 unborn-at es x h = any-false _ (length es) h
 

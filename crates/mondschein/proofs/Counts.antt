@@ -55,7 +55,7 @@ module _ (net : Network) (es : Ears) (e : List ℕ) where
           (where? (length e) k l)
 
   -- the count of an ear that passes
-  pub passed-count : Passed net es (eqb (length es) 0) e → newCount (eqb (length es) 0) (length e) ≡ newSwitches net es e
+  passed-count : Passed net es (eqb (length es) 0) e → newCount (eqb (length es) 0) (length e) ≡ newSwitches net es e
   unfolding newCount
   passed-count p = go (eqb (length es) 0) refl p
     where

@@ -20,7 +20,7 @@ pub passes-nil : {X : Type 0} (net : Network) (v i : ℕ) → passes net (v ∷ 
 unfolding passes
 passes-nil net v i h = let w = any-true (λ k. joins net i (at (v ∷ []) k) (at [] k)) 0 h in absurd (omega (arith, w .1))
 
-pub passes-cons : (net : Network) (a b : ℕ) (l : List ℕ) (i : ℕ) → passes net (a ∷ b ∷ l) i ≡ true → (joins net i a b ≡ true) ⊎ (passes net (b ∷ l) i ≡ true)
+passes-cons : (net : Network) (a b : ℕ) (l : List ℕ) (i : ℕ) → passes net (a ∷ b ∷ l) i ≡ true → (joins net i a b ≡ true) ⊎ (passes net (b ∷ l) i ≡ true)
 unfolding passes
 passes-cons net a b l i h = let w = any-true (λ k. joins net i (at (a ∷ b ∷ l) k) (at (b ∷ l) k)) (suc (length l)) h in go (w .0) (w .1) (w .2)
   where
@@ -65,7 +65,7 @@ module _ (net : Network) where
   unfolding passes
   along-passes l i (k, m, q) = true-any (λ k. joins net i (at l k) (at l (suc k))) (pred (length l)) k (omega arith) (cases-joins i _ _ q)
 
-  pub not-passes : (l : List ℕ) (i : ℕ) → (Along net l i → ⊥) → passes net l i ≡ false
+  not-passes : (l : List ℕ) (i : ℕ) → (Along net l i → ⊥) → passes net l i ≡ false
   not-passes l i h = ⊎-elim (λ t. absurd (h (passes-along l i t))) (λ f. f) (which (passes net l i))
 
 -- a link has two ends
@@ -100,7 +100,7 @@ passes-held net t i a b h j =
     (joins-ends net i (at t k) (at t (suc k)) a b q j)
 
 -- a list turned round passes the same links
-pub along-reverse : (net : Network) (l : List ℕ) (i : ℕ) → Along net l i → Along net (reverse l) i
+along-reverse : (net : Network) (l : List ℕ) (i : ℕ) → Along net l i → Along net (reverse l) i
 along-reverse net l i (k, h, j) =
     let m = length l - suc (suc k) in (
       m,

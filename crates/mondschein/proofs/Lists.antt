@@ -26,10 +26,10 @@ holds-at l k h = true-any (λ j. eqb (at l j) (at l k)) (length l) k h (eq-eqb (
 pub holds-by : (l : List ℕ) (k x : ℕ) → k < length l → at l k ≡ x → holds l x ≡ true
 holds-by l k x h e = subst (λ (y : ℕ). holds l y ≡ true) e (holds-at l k h)
 
-pub holds-here : (y : ℕ) (l : List ℕ) → holds (y ∷ l) y ≡ true
+holds-here : (y : ℕ) (l : List ℕ) → holds (y ∷ l) y ≡ true
 holds-here y l = holds-at (y ∷ l) 0 (omega arith)
 
-pub holds-there : (y : ℕ) (l : List ℕ) (x : ℕ) → holds l x ≡ true → holds (y ∷ l) x ≡ true
+holds-there : (y : ℕ) (l : List ℕ) (x : ℕ) → holds l x ≡ true → holds (y ∷ l) x ≡ true
 holds-there y l x h =
     let w = holds-in l x h in
     subst (λ (z : ℕ). holds (y ∷ l) z ≡ true) (w .2) (holds-at (y ∷ l) (suc (w .0)) (omega (arith, w .1)))
@@ -72,7 +72,7 @@ at-reverse (x ∷ l) k h =
     ∙ at-same (x ∷ l) 0 (suc (length l) - suc k) (omega arith)))
     (trichotomy k (length l)))
 
-pub in-reverse : (l : List ℕ) (x : ℕ) → In l x → In (reverse l) x
+in-reverse : (l : List ℕ) (x : ℕ) → In l x → In (reverse l) x
 in-reverse l x (k, h, e) =
     (length l - suc k, omega (arith, L.length-reverse l), at-reverse l (length l - suc k) (omega arith) ∙ at-same l _ k (omega arith) ∙ e)
 
@@ -87,7 +87,7 @@ holds-reverse l x =
 pub simple-length : (n : ℕ) (l : List ℕ) → Simple l → ((x : ℕ) → In l x → x < n) → length l ≤ n
 simple-length n l d b = pigeon (length l) n (at l) (λ k h. b (at l k) (k, h, refl)) d
 
-pub holds-head : (y : ℕ) (l : List ℕ) (x : ℕ) → holds (y ∷ l) x ≡ (eqb y x || holds l x)
+holds-head : (y : ℕ) (l : List ℕ) (x : ℕ) → holds (y ∷ l) x ≡ (eqb y x || holds l x)
 holds-head y l x =
     ⊎-elim
     (λ t. t ∙ sym (⊎-elim (λ e. or-left _ _ (eq-eqb y x e)) (λ h. true-or (eqb y x) _ h) (holds-cons y l x t)))

@@ -25,7 +25,7 @@ pub none-born : (x : ℕ) → born [] x ≡ false
 none-born x = ⊎-elim (λ t. let (i, l, _) = born-at [] x t in absurd (omega arith)) (λ f. f) (which (born [] x))
 
 -- in a list that repeats nothing a number has the position where it stands
-pub position-own : (l : List ℕ) → Simple l → (k : ℕ) → k < length l → position l (at l k) ≡ k
+position-own : (l : List ℕ) → Simple l → (k : ℕ) → k < length l → position l (at l k) ≡ k
 position-own l d k h = position-is l (at l k) k h refl (λ j m q. let z = d j k (omega arith) h q in omega arith)
 
 -- the places next to a switch between the ends, from A to B, in the ear as it is written
@@ -36,7 +36,7 @@ module _ (o e : List ℕ) (d : Simple e) (k : ℕ) (l : suc (suc k) < length e) 
       (at-reverse e (length e - suc (suc k)) (omega arith) ∙ at-same e _ (suc k) (omega arith))
       (λ j m q. let z = d (length e - suc j) (suc k) (omega arith) (omega arith) (sym (at-reverse e j (omega arith)) ∙ q) in omega arith)
 
-  pub towards-A : at (fromA o e) (pred (position (fromA o e) (at e (suc k)))) ≡ at e (k + cond (upward o e) 0 2)
+  towards-A : at (fromA o e) (pred (position (fromA o e) (at e (suc k)))) ≡ at e (k + cond (upward o e) 0 2)
   unfolding fromA
   towards-A = go (upward o e)
     where
@@ -44,7 +44,7 @@ module _ (o e : List ℕ) (d : Simple e) (k : ℕ) (l : suc (suc k) < length e) 
       go true = at-same e _ (k + 0) (omega (arith, position-own e d (suc k) (omega arith)))
       go false = rw turned-position (at-reverse e (pred (length e - suc (suc k))) (omega arith) ∙ at-same e _ (k + 2) (omega arith))
 
-  pub towards-B : at (fromA o e) (suc (position (fromA o e) (at e (suc k)))) ≡ at e (k + cond (upward o e) 2 0)
+  towards-B : at (fromA o e) (suc (position (fromA o e) (at e (suc k)))) ≡ at e (k + cond (upward o e) 2 0)
   unfolding fromA
   towards-B = go (upward o e)
     where
@@ -67,7 +67,7 @@ module _ (net : Network) (e : List ℕ) (p : Passed net [] true e) (k : ℕ) (l 
       ∙ at-same e _ _ (ap suc (position-own e (p .simple) k m))
 
 -- from the first ear on root and first are born
-pub root-born : (net : Network) (es : Ears) → Passing net es → 0 < length es → born es (net .root) ≡ true
+root-born : (net : Network) (es : Ears) → Passing net es → 0 < length es → born es (net .root) ≡ true
 root-born net es acc l = at-born es (net .root) 0 l (root-held net es acc l)
 
 pub first-born : (net : Network) (es : Ears) → Passing net es → 0 < length es → born es (net .first) ≡ true

@@ -29,7 +29,7 @@ pub position-is : (l : List ℕ) (x k : ℕ) → k < length l → at l k ≡ x �
 unfolding position
 position-is l x k h e b = low-eq (λ j. eqb (at l j) x) (length l) k (record { le = omega arith; before = λ j m. ne-eqb (at l j) x (b j m); hit = λ m. eq-eqb (at l k) x e })
 
-pub position-before : (l : List ℕ) (x j : ℕ) → j < position l x → at l j ≢ x
+position-before : (l : List ℕ) (x j : ℕ) → j < position l x → at l j ≢ x
 unfolding position
 position-before l x j h = eqb-false (at l j) x (low-is (λ k. eqb (at l k) x) (length l) .before j h)
 
@@ -38,7 +38,7 @@ pub record Turned (e c : List ℕ) : Type 0 where
   pub long : length c ≡ length e
   pub ways : ((k : ℕ) → k < length e → at c k ≡ at e k) ⊎ ((k : ℕ) → k < length e → at c k ≡ at e (length e - suc k))
 
-pub fromA-either : (o e : List ℕ) → (fromA o e ≡ e) ⊎ (fromA o e ≡ reverse e)
+fromA-either : (o e : List ℕ) → (fromA o e ≡ e) ⊎ (fromA o e ≡ reverse e)
 unfolding fromA
 fromA-either o e = cond-either (ltb (position o (at e 0)) (position o (at e (pred (length e))))) e (reverse e)
 
@@ -60,7 +60,7 @@ module _ (o new : List ℕ) (m : ℕ) (fits : m ≤ length o) where
   head-length : length (take m o) ≡ m
   head-length = omega (arith, length-take m o)
 
-  pub into-length : length into ≡ length o + length new
+  into-length : length into ≡ length o + length new
   into-length = omega (arith, length-append (take m o) (new ++ drop m o), length-append new (drop m o), length-drop m o, head-length)
 
   at-left : (k : ℕ) → k < m → at into k ≡ at o k
@@ -80,7 +80,7 @@ module _ (o new : List ℕ) (m : ℕ) (fits : m ≤ length o) where
       ∙ getD-drop m o (k - m) 0
       ∙ at-same o (m + (k - m)) k (omega arith)
 
-  pub into-cases : (j : ℕ)
+  into-cases : (j : ℕ)
       → ((j < m) × (at into j ≡ at o j))
       ⊎ (((k : ℕ) × (k < length new) × (j ≡ m + k) × (at into j ≡ at new k)) ⊎ ((k : ℕ) × (m ≤ k) × (j ≡ length new + k) × (at into j ≡ at o k)))
   into-cases j =
@@ -148,7 +148,7 @@ module _ (o new : List ℕ) (m : ℕ) (fits : m ≤ length o) where
       holds-by into (m + k) x (omega (arith, into-length)) (at-mid k l ∙ e)
 
   -- nothing is repeated
-  pub put-simple : Simple o → Simple new
+  put-simple : Simple o → Simple new
       → ((k : ℕ) → k < length new → holds o (at new k) ≡ false)
       → Simple into
   put-simple so sn f j k a b q = go (into-cases j) (into-cases k)
@@ -236,7 +236,7 @@ ends-differ o e f q =
     )
 
 -- it goes up from A to B
-pub fromA-up : (o e : List ℕ) → Fits o e → position o (at (fromA o e) 0) < position o (at (fromA o e) (pred (length (fromA o e))))
+fromA-up : (o e : List ℕ) → Fits o e → position o (at (fromA o e) 0) < position o (at (fromA o e) (pred (length (fromA o e))))
 unfolding fromA
 fromA-up o e f = go (ltb (position o (at e 0)) (position o (at e (pred (length e))))) refl
   where

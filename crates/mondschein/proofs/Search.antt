@@ -33,7 +33,7 @@ low-is p (suc n) = go (p zero) refl (low-is (λ k. p (suc k)) n)
     go false e h = shift p n _ e h
 
 -- nothing else is
-pub low-unique : (p : ℕ → Bool) (n j k : ℕ) → IsLow p n j → IsLow p n k → j ≡ k
+low-unique : (p : ℕ → Bool) (n j k : ℕ) → IsLow p n j → IsLow p n k → j ≡ k
 low-unique p n j k g h = go (trichotomy j k)
   where
     go : (j < k) ⊎ ((k < j) ⊎ (j ≡ k)) → j ≡ k
