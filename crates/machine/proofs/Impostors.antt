@@ -2,20 +2,20 @@
 -- So no demand holds of every program.
 use mathlib.Core.Path.{_≡_, refl, ap}
 use mathlib.Core.Logic.{inr}
-use mathlib.Core.Bool.{false, cond}
+use mathlib.Core.Bool.{_&&_, cond}
 use mathlib.Core.List.{List, [], _∷_, _++_, map}
 use Prim.Native.Nat.{ℕ}
 use native.Mathlib.Omega.{arith}
-use lib.Dec.{eqb}
+use lib.Dec.{ltb}
 use lib.ListN.{length}
 use Rattle.mondschein.specs.Network.{low, any, count, Network, at, holds, size, former, latter, joins, joined, passes, linkOf, Ears, born, birth, trail, used, isNew, newCount, newSwitches}
 use Rattle.mondschein.specs.Judge.{Answer, given, refused, check, wrongSize, linkTooLarge, selfLink, repeatedLink, wrongNames, missingLink, loading, wrongLength, tooLarge, repeated, notJoined, usedAlready, wrongCycle, unbornEnd, bornBetween, otherNew, otherUnborn, rootEnd, lastMisplaced, noneUnborn, verdict, judge, closing}
 use Rattle.mondschein.specs.Order.{position, fromA, between, extend, order, course, parent1, parent2, parent3By, parentOf}
-use Rattle.mondschein.specs.Outcome.{Outcome, written, unknown}
+use Rattle.mondschein.specs.Outcome.{Outcome, unknown}
 use Rattle.mondschein.specs.Mondschein.{Mondschein}
 use Rattle.mondschein.proofs.Outcomes.{never}
 use Rattle.mondschein.proofs.Excluded.{link-in-three-trees}
-use Rattle.machine.specs.Machine.{plan, closedPlan, State, empty, closed, byState, Call, load, ear, close, clear, answers, longer, told, tells, parentCall, walkCall, orderOf, sizeOf, Program, historyFrom, history}
+use Rattle.machine.specs.Machine.{plan, closedPlan, State, empty, closed, byState, Call, load, ear, close, answers, longer, told, tells, parentCall, walkCall, orderOf, sizeOf, Program, historyFrom, history}
 use Rattle.machine.specs.Demands.{Demand2, Demand3}
 use Rattle.machine.proofs.Demand2.{plain}
 
@@ -46,32 +46,26 @@ sequence : Mondschein net (cycle ∷ later)
 unfolding computed
 sequence = plain net (cycle ∷ later) .0 refl .1
 
--- the machine with other answers to calls
-abbrev answering : (Call → State → Answer) → Program
+-- the machine with its answers changed
+abbrev answering : (State → Answer → Answer) → Program
 answering f =
     record {
       Session = State;
       fresh = empty;
-      after = λ s c. tells c (f c s) s;
-      answer = λ s c. f c s;
+      after = λ s c. tells c (f s (answers c s)) s;
+      answer = λ s c. f s (answers c s);
       parent = parentCall;
       walk = walkCall;
       order = orderOf;
       size = sizeOf;
     }
 
--- another answer to ears, and to close
-abbrev toEars : (State → List ℕ → Answer) → Call → State → Answer
-toEars f (load n) s = answers (load n) s
-toEars f (ear e) s = f s e
-toEars f close s = answers close s
-toEars f clear s = answers clear s
-
-abbrev toClose : Answer → Call → State → Answer
-toClose a (load n) s = answers (load n) s
-toClose a (ear e) s = answers (ear e) s
-toClose a close s = a
-toClose a clear s = answers clear s
+-- another answer for one of no value, as close gives, and for one of one, as an ear gives
+abbrev replaced : Answer → (ℕ → Answer) → Answer → Answer
+replaced a f (given []) = a
+replaced a f (given (k ∷ [])) = f k
+replaced a f (given (k ∷ j ∷ vs)) = given (k ∷ j ∷ vs)
+replaced a f (refused num place) = refused num place
 
 -- the machine with other parents and walks
 abbrev reading : (State → ℕ → ℕ → Answer) → (State → ℕ → ℕ → List ℕ → Outcome (List ℕ)) → Program
@@ -93,18 +87,19 @@ unfolding computed
 closed-after f g = refl
 
 -- a judge that turns every planner away
-pub turns-all-away : Demand2 (answering (toEars (λ s e. refused 16 0))) → ⊥
+pub turns-all-away : Demand2 (answering (λ s. replaced (given []) (λ k. refused 16 0))) → ⊥
 unfolding computed
 turns-all-away d = never (d .judges (load net ∷ []) (plan net []) refl .accepts cycle later sequence)
 
 -- one that judges the first ear and waves the rest through: last's ear ends at root
-abbrev waving : State → List ℕ → Answer
-waving s e = byState (refused 19 0) (λ p. cond (eqb (length (p .ears)) 0) (judge (p .net) [] e) (given (newCount false (length e) ∷ []))) (λ p. refused 22 0) s
+abbrev waving : State → Answer → Answer
+waving s (given vs) = given vs
+waving s (refused num place) = byState (refused num place) (λ p. cond (ltb 0 (length (p .ears)) && ltb num 17) (given (0 ∷ [])) (refused num place)) (λ p. refused num place) s
 
 abbrev waved : Ears
 waved = cycle ∷ (2 ∷ 3 ∷ 0 ∷ []) ∷ (1 ∷ 3 ∷ []) ∷ []
 
-pub waves-the-rest-through : Demand2 (answering (toEars waving)) → ⊥
+pub waves-the-rest-through : Demand2 (answering waving) → ⊥
 unfolding computed
 waves-the-rest-through d =
     let (proper, M, _) = d .sound (calls waved) (closedPlan net waved) refl in
@@ -128,11 +123,7 @@ unfolding computed
 leaves-the-session d = never (d .judges (load net ∷ []) (plan net []) refl .accepts cycle later sequence)
 
 -- one that makes up the number of new switches
-abbrev recount : Answer → Answer
-recount (given vs) = given (0 ∷ [])
-recount (refused num place) = refused num place
-
-pub makes-up-the-number : Demand2 (answering (toEars (λ s e. recount (answers (ear e) s)))) → ⊥
+pub makes-up-the-number : Demand2 (answering (λ s. replaced (given []) (λ k. given (0 ∷ [])))) → ⊥
 unfolding computed
 makes-up-the-number d =
     let z : _≡_ {A = ℕ} 0 3 = ap value (d .judges (load net ∷ []) (plan net []) refl .accepts cycle later sequence) in
@@ -155,6 +146,6 @@ says-21 d =
     let (q, w, e, x, r) = d (calls (cycle ∷ later)) (closedPlan net (cycle ∷ later)) (closed-after noEntry walkCall) in
     never (e 1 0 (omega arith) (omega arith))
 
-pub says-23 : Demand2 (answering (toClose (refused 23 0))) → ⊥
+pub says-23 : Demand2 (answering (λ s. replaced (refused 23 0) (λ k. given (k ∷ [])))) → ⊥
 unfolding computed
 says-23 d = never (d .judges (load net ∷ map ear (cycle ∷ later)) (plan net (cycle ∷ later)) refl .closes sequence)
