@@ -9,7 +9,8 @@ ghost use lib.ListN.{length};
 ghost use Rattle.mondschein.specs.Network.{low, any, at, holds, joined, linkOf, isNew, newCount};
 ghost use Rattle.mondschein.specs.Judge.{given, lastMisplaced, verdict};
 ghost use Rattle.network.specs.Load.{networkOf, tableOf};
-ghost use Rattle.judge.specs.Ear.{marked, leadsTo, earAnswer, shapeChecks, placeChecks};
+ghost use Rattle.rows.specs.Rows.{marked};
+ghost use Rattle.judge.specs.Ear.{leadsTo, earAnswer, shapeChecks, placeChecks};
 
 // The answer to an ear: the number of new switches, or a refusal's number and place.
 pub enum Ear {
@@ -37,7 +38,7 @@ pub fn first_repeated(ear: &[u16]) -> usize
 {
     let mut k = 0;
     while k < ear.len() {
-        if order::position_of(ear, ear[k]) < k {
+        if rows::position_of(ear, ear[k]) < k {
             return k;
         }
         k += 1;
@@ -60,16 +61,6 @@ pub fn first_not_joined(links: &[u16], ear: &[u16]) -> usize
     k
 }
 
-// The mark at i, and 0 past the end.
-pub fn mark_at(marks: &[u8], i: usize) -> u8
-    ensures { λ r. ⌜ r ≡ at (now (marks .entry)) i ⌝ }
-{
-    if i < marks.len() {
-        return marks[i];
-    }
-    0
-}
-
 // 10 and 11: the first number that has no link to the next, or a used one.
 pub fn first_not_free(links: &[u16], used: &[u8], ear: &[u16]) -> usize
     ensures { λ r. ⌜ r ≡ low (λ k. not (joined (tableOf (now (links .entry))) (at (now (ear .entry)) k) (at (now (ear .entry)) (k + 1))) || marked (now (used .entry)) (linkOf (tableOf (now (links .entry))) (at (now (ear .entry)) k) (at (now (ear .entry)) (k + 1)))) (pred (length (now (ear .entry)))) ⌝ }
@@ -81,7 +72,7 @@ pub fn first_not_free(links: &[u16], used: &[u8], ear: &[u16]) -> usize
         if m <= l {
             return k;
         }
-        if 0 < mark_at(used, l) {
+        if 0 < rows::mark_at(used, l) {
             return k;
         }
         k += 1;
@@ -95,10 +86,10 @@ fn first_unborn_end(births: &[u16], ear: &[u16]) -> usize
     ensures { λ r. ⌜ r ≡ low (λ k. not (isNew false (length (now (ear .entry))) k) && not (marked (now (births .entry)) (at (now (ear .entry)) k))) (length (now (ear .entry))) ⌝ }
 {
     let len = ear.len();
-    if order::entry(births, ear[0]) == 0 {
+    if rows::entry(births, ear[0]) == 0 {
         return 0;
     }
-    if order::entry(births, ear[len - 1]) == 0 {
+    if rows::entry(births, ear[len - 1]) == 0 {
         return len - 1;
     }
     len
@@ -110,7 +101,7 @@ pub fn first_born(births: &[u16], part: &[u16]) -> usize
 {
     let mut k = 0;
     while k < part.len() {
-        if 0 < order::entry(births, part[k]) {
+        if 0 < rows::entry(births, part[k]) {
             return k;
         }
         k += 1;
@@ -122,10 +113,10 @@ pub fn first_born(births: &[u16], part: &[u16]) -> usize
 fn unborn(births: &[u16], ear: &[u16], x: u16) -> bool
     ensures { λ r. ⌜ r ≡ not (marked (now (births .entry)) x || holds (now (ear .entry)) x) ⌝ }
 {
-    if 0 < order::entry(births, x) {
+    if 0 < rows::entry(births, x) {
         return false;
     }
-    ear.len() <= order::position_of(ear, x)
+    ear.len() <= rows::position_of(ear, x)
 }
 
 // 15: a switch below n other than last is still unborn after the ear.
@@ -270,7 +261,7 @@ fn last_too_early(n: u16, root: u16, last: u16, births: &[u16], ear: &[u16]) -> 
 {
     let len = ear.len();
     let part = &ear[1..len - 1];
-    let place = order::position_of(part, last);
+    let place = rows::position_of(part, last);
     if len - 2 <= place {
         return len;
     }
@@ -309,7 +300,7 @@ fn check_first(
     if ear[len - 1] != first {
         return Ear::Refused(12, 0);
     }
-    let place = order::position_of(ear, last);
+    let place = rows::position_of(ear, last);
     if place < len {
         return Ear::Refused(15, place as u16);
     }

@@ -17,7 +17,8 @@ use Rattle.mondschein.proofs.Lists.{at-same, at-reverse}
 use Rattle.mondschein.proofs.Search.{low-is}
 use Rattle.mondschein.proofs.Order.{put, fromA-turned, between-length, between-at, extend-is}
 use Rattle.order.specs.Placed.{placed, placedCount}
-use Rattle.order.proofs.Writing.{take-count, gap}
+use Rattle.rows.proofs.Rows.{take-count}
+use Rattle.order.proofs.Writing.{gap}
 
 -- a position in the first c numbers
 pub position-within : {q : ℕ} (o : List ℕ) (c x : ℕ) → q ≡ position (take c o) x → q ≤ c

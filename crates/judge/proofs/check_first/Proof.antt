@@ -2,7 +2,7 @@ use mathlib.Core.Path.{sym, _∙_}
 use mathlib.Core.List.{[]}
 use Rattle.mondschein.proofs.Checks.{check-hit, check-miss}
 use Rattle.network.specs.Load.{networkOf}
-use Rattle.judge.specs.Ear.{marked}
+use Rattle.rows.specs.Rows.{marked}
 use Rattle.judge.proofs.Last.{first-15}
 use Rattle.judge.proofs.Answers.{first-12-root, first-12-first, first-past}
 use borrow.Author.Needs.{needs}

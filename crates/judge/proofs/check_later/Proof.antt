@@ -6,7 +6,7 @@ use lib.ListN.{length}
 use Rattle.mondschein.specs.Network.{newCount}
 use Rattle.mondschein.specs.Judge.{given}
 use Rattle.mondschein.proofs.Checks.{check-hit, check-miss}
-use Rattle.judge.specs.Ear.{marked}
+use Rattle.rows.specs.Rows.{marked}
 use Rattle.judge.proofs.Place.{part-hit, part-miss}
 use Rattle.judge.proofs.Answers.{cutOff, later-past}
 use borrow.Author.Needs.{needs}

@@ -9,7 +9,7 @@ use lib.Dec.{eqb}
 use Rattle.mondschein.specs.Network.{low, any, at, holds, joined}
 use Rattle.mondschein.proofs.Search.{rest, rest-begin, rest-hit, rest-miss, rest-end}
 use Rattle.network.specs.Load.{tableOf}
-use Rattle.judge.specs.Ear.{marked}
+use Rattle.rows.specs.Rows.{marked}
 use Rattle.judge.proofs.Neighbours.{and-failed, and-passed}
 use Rattle.judge.proofs.first_cut_off.Statement.{statement}
 use Rattle.judge.proofs.first_cut_off.Tie as tie

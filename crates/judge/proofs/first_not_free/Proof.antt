@@ -5,7 +5,8 @@ use native.Mathlib.Omega.{arith}
 use lib.ListN.{length}
 use borrow.Author.Needs.{needs}
 use Rattle.judge.proofs.Shape.{notFree}
-use Rattle.judge.proofs.Tests.{marked-hit, marked-miss, not-joined-hit, not-joined-miss}
+use Rattle.rows.proofs.Rows.{marked-hit, marked-miss}
+use Rattle.judge.proofs.Tests.{not-joined-hit, not-joined-miss}
 use Rattle.mondschein.specs.Network.{low, at, size}
 use Rattle.mondschein.proofs.Logic.{or-left}
 use Rattle.mondschein.proofs.Search.{rest, rest-begin, rest-hit, rest-miss, rest-end}

@@ -10,7 +10,7 @@ use borrow.Fn.PlainCycle.{Measures, is, falls, and}
 use borrow.Rule.Slice.PartMut.{same-len-mid}
 use Rattle.walks.proofs.write_walk.Reads as reads
 use Rattle.walks.proofs.write_walk.Kinds as kinds
-use Rattle.order.proofs.entry.Reads as entry-reads
+use Rattle.rows.proofs.entry.Reads as entry-reads
 use Rattle.walks.proofs.+write_walk.Lts-write_walk as lts
 use Rattle.walks.proofs.+write_walk.{statement}
 use Rattle.walks.proofs.+write_walk.Tie.{close}
