@@ -19,7 +19,7 @@ pub enum Ear {
 }
 
 // 8: the first number of n or more.
-pub fn first_too_large(ear: &[u16], n: u16) -> usize
+fn first_too_large(ear: &[u16], n: u16) -> usize
     ensures { λ r. ⌜ r ≡ low (λ k. leb n (at (now (ear .entry)) k)) (length (now (ear .entry))) ⌝ }
 {
     let mut k = 0;
@@ -33,7 +33,7 @@ pub fn first_too_large(ear: &[u16], n: u16) -> usize
 }
 
 // 9: the first number that stood before.
-pub fn first_repeated(ear: &[u16]) -> usize
+fn first_repeated(ear: &[u16]) -> usize
     ensures { λ r. ⌜ r ≡ low (λ k. any (λ j. eqb (at (now (ear .entry)) j) (at (now (ear .entry)) k)) k) (length (now (ear .entry))) ⌝ }
 {
     let mut k = 0;
@@ -47,7 +47,7 @@ pub fn first_repeated(ear: &[u16]) -> usize
 }
 
 // 10: the first number that is not joined to the next.
-pub fn first_not_joined(links: &[u16], ear: &[u16]) -> usize
+fn first_not_joined(links: &[u16], ear: &[u16]) -> usize
     ensures { λ r. ⌜ r ≡ low (λ k. not (joined (tableOf (now (links .entry))) (at (now (ear .entry)) k) (at (now (ear .entry)) (k + 1)))) (pred (length (now (ear .entry)))) ⌝ }
 {
     let m = links.len() / 2;
@@ -62,7 +62,7 @@ pub fn first_not_joined(links: &[u16], ear: &[u16]) -> usize
 }
 
 // 10 and 11: the first number that has no link to the next, or a used one.
-pub fn first_not_free(links: &[u16], used: &[u8], ear: &[u16]) -> usize
+fn first_not_free(links: &[u16], used: &[u8], ear: &[u16]) -> usize
     ensures { λ r. ⌜ r ≡ low (λ k. not (joined (tableOf (now (links .entry))) (at (now (ear .entry)) k) (at (now (ear .entry)) (k + 1))) || marked (now (used .entry)) (linkOf (tableOf (now (links .entry))) (at (now (ear .entry)) k) (at (now (ear .entry)) (k + 1)))) (pred (length (now (ear .entry)))) ⌝ }
 {
     let m = links.len() / 2;
@@ -96,7 +96,7 @@ fn first_unborn_end(births: &[u16], ear: &[u16]) -> usize
 }
 
 // 14, over the part between the ends: the first switch that is born.
-pub fn first_born(births: &[u16], part: &[u16]) -> usize
+fn first_born(births: &[u16], part: &[u16]) -> usize
     ensures { λ r. ⌜ r ≡ low (λ k. marked (now (births .entry)) (at (now (part .entry)) k)) (length (now (part .entry))) ⌝ }
 {
     let mut k = 0;
@@ -120,7 +120,7 @@ fn unborn(births: &[u16], ear: &[u16], x: u16) -> bool
 }
 
 // 15: a switch below n other than last is still unborn after the ear.
-pub fn other_unborn(n: u16, last: u16, births: &[u16], ear: &[u16]) -> bool
+fn other_unborn(n: u16, last: u16, births: &[u16], ear: &[u16]) -> bool
     ensures { λ r. ⌜ r ≡ any (λ x. not (eqb x last) && not (marked (now (births .entry)) x || holds (now (ear .entry)) x)) n ⌝ }
 {
     let mut x: u16 = 0;
@@ -162,7 +162,7 @@ fn leads_to_unborn(n: u16, links: &[u16], births: &[u16], ear: &[u16], v: u16, i
 }
 
 // A neighbour of v below n is still unborn after the ear: one scan of the links.
-pub fn unborn_neighbour(n: u16, links: &[u16], births: &[u16], ear: &[u16], v: u16) -> bool
+fn unborn_neighbour(n: u16, links: &[u16], births: &[u16], ear: &[u16], v: u16) -> bool
     ensures { λ r. ⌜ r ≡ any (λ x. joined (tableOf (now (links .entry))) v x && not (marked (now (births .entry)) x || holds (now (ear .entry)) x)) n ⌝ }
 {
     let m = links.len() / 2;
@@ -177,7 +177,7 @@ pub fn unborn_neighbour(n: u16, links: &[u16], births: &[u16], ear: &[u16], v: u
 }
 
 // 16: the first new switch, other than last, that keeps no unborn neighbour.
-pub fn first_cut_off(
+fn first_cut_off(
     n: u16,
     last: u16,
     links: &[u16],

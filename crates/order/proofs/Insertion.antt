@@ -33,7 +33,7 @@ upward-by b o e h s t =
     (t ∙ ap₂ position (take-count b o h) (at-same e _ _ (omega arith)))
 
 -- the numbers between the ends, of an ear turned round
-pub between-reverse : (e : List ℕ) → between (reverse e) ≡ reverse (between e)
+between-reverse : (e : List ℕ) → between (reverse e) ≡ reverse (between e)
 between-reverse e =
     ext-getD 0 (between (reverse e)) (reverse (between e))
     (omega (arith, long, length-reverse (between e), between-length e))
@@ -103,7 +103,7 @@ module _ (o e : List ℕ) (some : 0 < length o) where
       ∙ ap₂ (λ (x : List ℕ) (k : ℕ). put o x (suc (position o k))) (between-reverse e) (at-reverse e 0 l ∙ at-same e _ _ (omega arith))
 
 -- the part of an ear between its ends
-abbrev pub inner : List ℕ → List ℕ
+abbrev inner : List ℕ → List ℕ
 inner e = take (length e - 1 - 1) (drop 1 e)
 
 inner-between : (e : List ℕ) → inner e ≡ between e

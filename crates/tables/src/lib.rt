@@ -95,14 +95,14 @@ fn set_later_parents(upward: bool, ear: &[u16], tree1: &mut [u16], tree2: &mut [
     set_neighbours(ear, 0, tree2);
 }
 
-// The number of long ears after one more ear; it stops at 1,024.
+// The number of long ears after one more ear; it stops at the limit of N.
 fn count_long(longs: u16, ear: &[u16]) -> u16
     ensures { λ r. ⌜ r ≡ longsAfter longs (now (ear .entry)) ⌝ }
 {
     if ear.len() == 2 {
         return longs;
     }
-    if 1024 <= longs {
+    if network::MAX_SWITCHES <= longs {
         return longs;
     }
     longs + 1
