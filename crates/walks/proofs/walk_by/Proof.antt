@@ -1,6 +1,6 @@
 use native.Mathlib.Omega.{arith}
 use Rattle.mondschein.specs.Network.{at}
-use Rattle.walks.proofs.Links.{walk-bound}
+use Rattle.mondschein.proofs.Routes.{walk-bound}
 use Rattle.walks.proofs.Written.{walk-refused, walk-written}
 use borrow.Author.Needs.{needs}
 use Rattle.walks.proofs.walk_by.Statement.{statement}
