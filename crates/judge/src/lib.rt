@@ -9,7 +9,8 @@ ghost use lib.ListN.{length};
 ghost use Rattle.mondschein.specs.Network.{low, any, at, holds, joined, linkOf, isNew, newCount};
 ghost use Rattle.mondschein.specs.Judge.{given, lastMisplaced, verdict};
 ghost use Rattle.network.specs.Load.{networkOf, tableOf};
-ghost use Rattle.judge.specs.Ear.{marked, leadsTo, earAnswer, shapeChecks, placeChecks};
+ghost use Rattle.rows.specs.Rows.{marked};
+ghost use Rattle.judge.specs.Ear.{leadsTo, earAnswer, shapeChecks, placeChecks};
 
 // The answer to an ear: the number of new switches, or a refusal's number and place.
 pub enum Ear {
@@ -18,7 +19,7 @@ pub enum Ear {
 }
 
 // 8: the first number of n or more.
-pub fn first_too_large(ear: &[u16], n: u16) -> usize
+fn first_too_large(ear: &[u16], n: u16) -> usize
     ensures { λ r. ⌜ r ≡ low (λ k. leb n (at (now (ear .entry)) k)) (length (now (ear .entry))) ⌝ }
 {
     let mut k = 0;
@@ -32,12 +33,12 @@ pub fn first_too_large(ear: &[u16], n: u16) -> usize
 }
 
 // 9: the first number that stood before.
-pub fn first_repeated(ear: &[u16]) -> usize
+fn first_repeated(ear: &[u16]) -> usize
     ensures { λ r. ⌜ r ≡ low (λ k. any (λ j. eqb (at (now (ear .entry)) j) (at (now (ear .entry)) k)) k) (length (now (ear .entry))) ⌝ }
 {
     let mut k = 0;
     while k < ear.len() {
-        if order::position_of(ear, ear[k]) < k {
+        if rows::position_of(ear, ear[k]) < k {
             return k;
         }
         k += 1;
@@ -46,7 +47,7 @@ pub fn first_repeated(ear: &[u16]) -> usize
 }
 
 // 10: the first number that is not joined to the next.
-pub fn first_not_joined(links: &[u16], ear: &[u16]) -> usize
+fn first_not_joined(links: &[u16], ear: &[u16]) -> usize
     ensures { λ r. ⌜ r ≡ low (λ k. not (joined (tableOf (now (links .entry))) (at (now (ear .entry)) k) (at (now (ear .entry)) (k + 1)))) (pred (length (now (ear .entry)))) ⌝ }
 {
     let m = links.len() / 2;
@@ -60,18 +61,8 @@ pub fn first_not_joined(links: &[u16], ear: &[u16]) -> usize
     k
 }
 
-// The mark at i, and 0 past the end.
-pub fn mark_at(marks: &[u8], i: usize) -> u8
-    ensures { λ r. ⌜ r ≡ at (now (marks .entry)) i ⌝ }
-{
-    if i < marks.len() {
-        return marks[i];
-    }
-    0
-}
-
 // 10 and 11: the first number that has no link to the next, or a used one.
-pub fn first_not_free(links: &[u16], used: &[u8], ear: &[u16]) -> usize
+fn first_not_free(links: &[u16], used: &[u8], ear: &[u16]) -> usize
     ensures { λ r. ⌜ r ≡ low (λ k. not (joined (tableOf (now (links .entry))) (at (now (ear .entry)) k) (at (now (ear .entry)) (k + 1))) || marked (now (used .entry)) (linkOf (tableOf (now (links .entry))) (at (now (ear .entry)) k) (at (now (ear .entry)) (k + 1)))) (pred (length (now (ear .entry)))) ⌝ }
 {
     let m = links.len() / 2;
@@ -81,7 +72,7 @@ pub fn first_not_free(links: &[u16], used: &[u8], ear: &[u16]) -> usize
         if m <= l {
             return k;
         }
-        if 0 < mark_at(used, l) {
+        if 0 < rows::mark_at(used, l) {
             return k;
         }
         k += 1;
@@ -95,22 +86,22 @@ fn first_unborn_end(births: &[u16], ear: &[u16]) -> usize
     ensures { λ r. ⌜ r ≡ low (λ k. not (isNew false (length (now (ear .entry))) k) && not (marked (now (births .entry)) (at (now (ear .entry)) k))) (length (now (ear .entry))) ⌝ }
 {
     let len = ear.len();
-    if order::entry(births, ear[0]) == 0 {
+    if rows::entry(births, ear[0]) == 0 {
         return 0;
     }
-    if order::entry(births, ear[len - 1]) == 0 {
+    if rows::entry(births, ear[len - 1]) == 0 {
         return len - 1;
     }
     len
 }
 
 // 14, over the part between the ends: the first switch that is born.
-pub fn first_born(births: &[u16], part: &[u16]) -> usize
+fn first_born(births: &[u16], part: &[u16]) -> usize
     ensures { λ r. ⌜ r ≡ low (λ k. marked (now (births .entry)) (at (now (part .entry)) k)) (length (now (part .entry))) ⌝ }
 {
     let mut k = 0;
     while k < part.len() {
-        if 0 < order::entry(births, part[k]) {
+        if 0 < rows::entry(births, part[k]) {
             return k;
         }
         k += 1;
@@ -122,14 +113,14 @@ pub fn first_born(births: &[u16], part: &[u16]) -> usize
 fn unborn(births: &[u16], ear: &[u16], x: u16) -> bool
     ensures { λ r. ⌜ r ≡ not (marked (now (births .entry)) x || holds (now (ear .entry)) x) ⌝ }
 {
-    if 0 < order::entry(births, x) {
+    if 0 < rows::entry(births, x) {
         return false;
     }
-    ear.len() <= order::position_of(ear, x)
+    ear.len() <= rows::position_of(ear, x)
 }
 
 // 15: a switch below n other than last is still unborn after the ear.
-pub fn other_unborn(n: u16, last: u16, births: &[u16], ear: &[u16]) -> bool
+fn other_unborn(n: u16, last: u16, births: &[u16], ear: &[u16]) -> bool
     ensures { λ r. ⌜ r ≡ any (λ x. not (eqb x last) && not (marked (now (births .entry)) x || holds (now (ear .entry)) x)) n ⌝ }
 {
     let mut x: u16 = 0;
@@ -171,7 +162,7 @@ fn leads_to_unborn(n: u16, links: &[u16], births: &[u16], ear: &[u16], v: u16, i
 }
 
 // A neighbour of v below n is still unborn after the ear: one scan of the links.
-pub fn unborn_neighbour(n: u16, links: &[u16], births: &[u16], ear: &[u16], v: u16) -> bool
+fn unborn_neighbour(n: u16, links: &[u16], births: &[u16], ear: &[u16], v: u16) -> bool
     ensures { λ r. ⌜ r ≡ any (λ x. joined (tableOf (now (links .entry))) v x && not (marked (now (births .entry)) x || holds (now (ear .entry)) x)) n ⌝ }
 {
     let m = links.len() / 2;
@@ -186,7 +177,7 @@ pub fn unborn_neighbour(n: u16, links: &[u16], births: &[u16], ear: &[u16], v: u
 }
 
 // 16: the first new switch, other than last, that keeps no unborn neighbour.
-pub fn first_cut_off(
+fn first_cut_off(
     n: u16,
     last: u16,
     links: &[u16],
@@ -270,7 +261,7 @@ fn last_too_early(n: u16, root: u16, last: u16, births: &[u16], ear: &[u16]) -> 
 {
     let len = ear.len();
     let part = &ear[1..len - 1];
-    let place = order::position_of(part, last);
+    let place = rows::position_of(part, last);
     if len - 2 <= place {
         return len;
     }
@@ -309,7 +300,7 @@ fn check_first(
     if ear[len - 1] != first {
         return Ear::Refused(12, 0);
     }
-    let place = order::position_of(ear, last);
+    let place = rows::position_of(ear, last);
     if place < len {
         return Ear::Refused(15, place as u16);
     }

@@ -116,6 +116,17 @@ module _ (r : ℕ) (p : ℕ → ℕ) where
         (passes-on net v (p v) (walkBy r p k (p v)) i (walk-first k (p v) .0) (walk-first k (p v) .1) h′))
         h
 
+-- a walk has a switch, and at most one more than its limit
+pub walk-bound : (root : ℕ) (p : ℕ → ℕ) (limit v : ℕ) → (0 < length (walkBy root p limit v)) × (length (walkBy root p limit v) ≤ suc limit)
+unfolding walkBy
+walk-bound root p zero v = omega arith
+walk-bound root p (suc k) v = go (eqb v root) (walk-bound root p k (p v) .1)
+  where
+    go : (b : Bool) → length (walkBy root p k (p v)) ≤ suc k
+        → (0 < length (cond b (v ∷ []) (v ∷ walkBy root p k (p v)))) × (length (cond b (v ∷ []) (v ∷ walkBy root p k (p v))) ≤ suc (suc k))
+    go true h = omega arith
+    go false h = omega arith
+
 -- tables that agree below n have the same walks there
 pub walk-ext : (r n : ℕ) (p q : ℕ → ℕ) → ((x : ℕ) → x < n → p x ≡ q x) → ((x : ℕ) → x < n → x ≢ r → p x < n) → (k v : ℕ) → v < n → walkBy r p k v ≡ walkBy r q k v
 unfolding walkBy

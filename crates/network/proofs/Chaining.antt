@@ -17,7 +17,7 @@ use Rattle.mondschein.proofs.Links.{joins-cases}
 use Rattle.network.specs.Chains.{lowerEnd, lastLink, ChainOf, Chained}
 
 -- a link that joins a and b has the lower of them as its lower end
-pub joins-lower : (net : Network) (j a b : ℕ) → joins net j a b ≡ true → lowerEnd net j ≡ min a b
+joins-lower : (net : Network) (j a b : ℕ) → joins net j a b ≡ true → lowerEnd net j ≡ min a b
 unfolding lowerEnd
 joins-lower net j a b t = go (joins-cases net j a b t)
   where
@@ -34,12 +34,12 @@ module _ (net : Network) (v : ℕ) where
   unfolding lastLink
   last-before k d = ap (λ (b : Bool). cond b (suc k) (lastLink net v k)) (ne-eqb _ _ d)
 
-  pub last-le : (k : ℕ) → lastLink net v k ≤ k
+  last-le : (k : ℕ) → lastLink net v k ≤ k
   unfolding lastLink
   last-le zero = omega arith
   last-le (suc k) = ⊎-elim (λ q. omega (arith, last-here k q)) (λ d. omega (arith, last-before k d, last-le k)) (same? (lowerEnd net k) v)
 
-  pub last-end : (k j : ℕ) → lastLink net v k ≡ suc j → lowerEnd net j ≡ v
+  last-end : (k j : ℕ) → lastLink net v k ≡ suc j → lowerEnd net j ≡ v
   unfolding lastLink
   last-end zero j e = absurd (omega arith)
   last-end (suc k) j e =
@@ -49,7 +49,7 @@ module _ (net : Network) (v : ℕ) where
       (same? (lowerEnd net k) v)
 
   -- links that have v as lower end stand at or below the last one
-  pub last-any : (p : ℕ → Bool) → ((j : ℕ) → p j ≡ true → lowerEnd net j ≡ v) → (k : ℕ) → any p k ≡ any p (lastLink net v k)
+  last-any : (p : ℕ → Bool) → ((j : ℕ) → p j ≡ true → lowerEnd net j ≡ v) → (k : ℕ) → any p k ≡ any p (lastLink net v k)
   unfolding lastLink
   last-any p h zero = refl
   last-any p h (suc k) =

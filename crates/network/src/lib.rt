@@ -9,10 +9,27 @@ ghost use Rattle.mondschein.specs.Judge.{linkTooLarge, selfLink, repeatedLink, 
 ghost use Rattle.network.specs.Chains.{lowerEnd, ChainOf, Chained};
 ghost use Rattle.network.specs.Load.{networkOf, tableOf, loadAnswer, nameChecks, tableChecks};
 
+// Document 01's limits of N and of M.
+pub const MAX_SWITCHES: u16 = 1024;
+
+pub const MAX_LINKS: u16 = 4096;
+
 // The answer to load: N and M, or a refusal's number and place.
 pub enum Load {
     Loaded(u16, u16),
     Refused(u8, u16),
+}
+
+// How many numbers at the start of the link table are links: two for each, and no more than there are.
+pub fn table_length(m: u16) -> usize
+    ensures { λ r. ⌜ r ≡ min (2 * m) 8192 ⌝ }
+{
+    let numbers = 2 * (m as usize);
+    let most = 2 * (MAX_LINKS as usize);
+    if numbers < most {
+        return numbers;
+    }
+    most
 }
 
 // Link i joins a and b, in either writing.
@@ -177,8 +194,8 @@ fn first_repeated_link(links: &[u16]) -> usize
     requires { ⌜ length (now links) ≤ 8193 ⌝ }
     ensures { λ r. ⌜ r ≡ low (repeatedLink (tableOf (now (links .entry)))) (size (tableOf (now (links .entry)))) ⌝ }
 {
-    let mut head = [0u16; 1024];
-    let mut next = [0u16; 4096];
+    let mut head = [0u16; MAX_SWITCHES as usize];
+    let mut next = [0u16; MAX_LINKS as usize];
     first_repeat(links, &mut head, &mut next)
 }
 

@@ -17,7 +17,8 @@ use Rattle.mondschein.proofs.Lists.{at-same, at-reverse}
 use Rattle.mondschein.proofs.Search.{low-is}
 use Rattle.mondschein.proofs.Order.{put, fromA-turned, between-length, between-at, extend-is}
 use Rattle.order.specs.Placed.{placed, placedCount}
-use Rattle.order.proofs.Writing.{take-count, gap}
+use Rattle.rows.proofs.Rows.{take-count}
+use Rattle.order.proofs.Writing.{gap}
 
 -- a position in the first c numbers
 pub position-within : {q : ℕ} (o : List ℕ) (c x : ℕ) → q ≡ position (take c o) x → q ≤ c
@@ -32,7 +33,7 @@ upward-by b o e h s t =
     (t ∙ ap₂ position (take-count b o h) (at-same e _ _ (omega arith)))
 
 -- the numbers between the ends, of an ear turned round
-pub between-reverse : (e : List ℕ) → between (reverse e) ≡ reverse (between e)
+between-reverse : (e : List ℕ) → between (reverse e) ≡ reverse (between e)
 between-reverse e =
     ext-getD 0 (between (reverse e)) (reverse (between e))
     (omega (arith, long, length-reverse (between e), between-length e))
@@ -102,7 +103,7 @@ module _ (o e : List ℕ) (some : 0 < length o) where
       ∙ ap₂ (λ (x : List ℕ) (k : ℕ). put o x (suc (position o k))) (between-reverse e) (at-reverse e 0 l ∙ at-same e _ _ (omega arith))
 
 -- the part of an ear between its ends
-abbrev pub inner : List ℕ → List ℕ
+abbrev inner : List ℕ → List ℕ
 inner e = take (length e - 1 - 1) (drop 1 e)
 
 inner-between : (e : List ℕ) → inner e ≡ between e

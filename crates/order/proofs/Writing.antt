@@ -1,23 +1,13 @@
--- Laws of an array that numbers are written into, in the code's terms: its first numbers, a gap opened in it, and a list written at an
+-- Laws of an array that numbers are written into, in the code's terms: a gap opened in it, and a list written at an
 -- index, number by number.
 use mathlib.Core.Path.{_≡_, sym, ap, _∙_}
-use mathlib.Core.Logic.{⊎-elim}
 use mathlib.Core.List.{List, _∷_, _++_, reverse, append-assoc}
-use Prim.Native.Nat.{ℕ, suc, min, _+_, _-_, _≤_, _<_}
+use Prim.Native.Nat.{ℕ, suc, _+_, _-_, _≤_, _<_}
 use native.Mathlib.Numerals.{add-one}
 use native.Mathlib.Omega.{arith}
 use lib.ListN.{length, getD, take, drop, set, length-take, take-append-drop, List·getD-append}
 use lib.Seq.{take-all, take-suc, drop-cons, getD-take, set-at, append-snoc, paste, paste-suc}
-use Rattle.mondschein.proofs.Logic.{less?}
 use Rattle.mondschein.proofs.Lists.{at-same, at-reverse}
-
--- the first b of a list, counted within it
-pub take-count : {r : ℕ} (b : ℕ) (o : List ℕ) → r ≡ min b (length o) → take r o ≡ take b o
-take-count {r} b o e =
-    ⊎-elim
-    (λ (h : b < length o). ap (λ (k : ℕ). take k o) (let z : r ≡ b = omega arith in z))
-    (λ (h : length o ≤ b). take-all r o (omega arith) ∙ sym (take-all b o h))
-    (less? b (length o))
 
 -- the numbers from index k up to count stand c places higher, and everything else as before
 abbrev pub gap : List ℕ → ℕ → ℕ → ℕ → List ℕ

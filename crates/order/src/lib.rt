@@ -1,47 +1,11 @@
-// Rows of switches on lent slices: entries, positions, and the order with the insertion of an ear's new switches.
+// The order of switches on a lent slice, with the insertion of an ear's new switches.
 // The order is kept at the start of an array, with its count.
 ghost use mathlib.Core.Path.{_≡_};
 ghost use mathlib.Core.List.{_++_, reverse};
-ghost use Prim.Native.Nat.{min, _+_, _-_, _≤_};
+ghost use Prim.Native.Nat.{_+_, _-_, _≤_};
 ghost use lib.ListN.{length, take, drop};
-ghost use Rattle.mondschein.specs.Network.{at};
-ghost use Rattle.mondschein.specs.Order.{position, upward, extend};
+ghost use Rattle.mondschein.specs.Order.{upward, extend};
 ghost use Rattle.order.specs.Placed.{placed, placedCount};
-
-// The entry of switch v in a row, and 0 past the end.
-pub fn entry(row: &[u16], v: u16) -> u16
-    ensures { λ r. ⌜ r ≡ at (now (row .entry)) v ⌝ }
-{
-    let i = v as usize;
-    if i < row.len() {
-        return row[i];
-    }
-    0
-}
-
-// The index of x in the list, or its length.
-pub fn position_of(list: &[u16], x: u16) -> usize
-    ensures { λ r. ⌜ r ≡ position (now (list .entry)) x ⌝ }
-{
-    let mut k = 0;
-    while k < list.len() {
-        if list[k] == x {
-            return k;
-        }
-        k += 1;
-    }
-    k
-}
-
-// The lesser of two numbers.
-fn least(a: usize, b: usize) -> usize
-    ensures { λ r. ⌜ r ≡ min a b ⌝ }
-{
-    if a < b {
-        return a;
-    }
-    b
-}
 
 // The ear is written from the end that comes earlier in the order.
 pub fn upward(order: &[u16], born: u16, ear: &[u16]) -> bool
@@ -49,9 +13,9 @@ pub fn upward(order: &[u16], born: u16, ear: &[u16]) -> bool
     ensures { λ r. ⌜ r ≡ upward (take born (now (order .entry))) (now (ear .entry)) ⌝ }
 {
     let len = ear.len();
-    let count = least(born as usize, order.len());
+    let count = rows::least(born as usize, order.len());
     let list = &order[..count];
-    position_of(list, ear[0]) < position_of(list, ear[len - 1])
+    rows::position_of(list, ear[0]) < rows::position_of(list, ear[len - 1])
 }
 
 // Moves the numbers from index at up to count by c places, the last one first.
@@ -98,14 +62,14 @@ fn insert_later(order: &mut [u16], count: usize, ear: &[u16])
 {
     let len = ear.len();
     let part = &ear[1..len - 1];
-    let former = position_of(&order[..count], ear[0]);
-    let latter = position_of(&order[..count], ear[len - 1]);
+    let former = rows::position_of(&order[..count], ear[0]);
+    let latter = rows::position_of(&order[..count], ear[len - 1]);
     if former < latter {
         open_gap(order, former + 1, count, len - 2);
         write_at(order, former + 1, part);
         return;
     }
-    let at = least(latter + 1, count);
+    let at = rows::least(latter + 1, count);
     open_gap(order, at, count, len - 2);
     write_reversed(order, at, part);
 }
@@ -117,7 +81,7 @@ pub fn insert(order: &mut [u16], born: u16, ear: &[u16]) -> u16
 {
     let len = ear.len();
     let room = order.len();
-    let count = least(born as usize, room);
+    let count = rows::least(born as usize, room);
     if count == 0 {
         if room < len {
             return born;

@@ -5,36 +5,17 @@ ghost use mathlib.Core.Bool.{true, _&&_, cond};
 ghost use mathlib.Core.List.{[]};
 ghost use Prim.Native.Nat.{suc, pred, _≤_};
 ghost use lib.Dec.{ltb};
-ghost use lib.ListN.{length, set, take, replicate};
+ghost use lib.ListN.{length, set, take};
 ghost use Rattle.mondschein.specs.Network.{low, at, joined, linkOf};
 ghost use Rattle.mondschein.specs.Judge.{closing};
 ghost use Rattle.network.specs.Load.{networkOf, tableOf};
-ghost use Rattle.judge.specs.Ear.{marked};
+ghost use Rattle.rows.specs.Rows.{marked};
 ghost use Rattle.tables.specs.Tables.{assigned, usedAfter, longsAfter, newOf, birthsAfter, neighbours, tree1After, tree2After, tablesOf, afterEar, tree3Of, closeAnswer};
 
 // The answer to close: closed, or a refusal's number and place.
 pub enum Close {
     Closed,
     Refused(u8, u16),
-}
-
-// Marks link l.
-fn mark(used: &mut [u8], l: usize)
-    ensures { λ _. ⌜ now (used .exit) ≡ set (now (used .entry)) l 1 ⌝ }
-{
-    if l < used.len() {
-        used[l] = 1;
-    }
-}
-
-// The entry of switch v.
-fn store(row: &mut [u16], v: u16, entry: u16)
-    ensures { λ _. ⌜ now (row .exit) ≡ set (now (row .entry)) v entry ⌝ }
-{
-    let i = v as usize;
-    if i < row.len() {
-        row[i] = entry;
-    }
 }
 
 // Marks the links between two neighbours of the ear.
@@ -44,7 +25,7 @@ fn mark_along(links: &[u16], ear: &[u16], used: &mut [u8])
     let mut k = 0;
     while k + 1 < ear.len() {
         let l = network::link_of(links, ear[k], ear[k + 1]);
-        mark(used, l);
+        rows::mark(used, l);
         k += 1;
     }
 }
@@ -58,7 +39,7 @@ fn mark_ear(links: &[u16], initial: bool, ear: &[u16], used: &mut [u8])
     if initial {
         let len = ear.len();
         let l = network::link_of(links, ear[len - 1], ear[0]);
-        mark(used, l);
+        rows::mark(used, l);
     }
 }
 
@@ -68,7 +49,7 @@ fn set_births(new: &[u16], b: u16, births: &mut [u16])
 {
     let mut k = 0;
     while k < new.len() {
-        store(births, new[k], b);
+        rows::store(births, new[k], b);
         k += 1;
     }
 }
@@ -80,7 +61,7 @@ fn set_neighbours(ear: &[u16], d: usize, row: &mut [u16])
 {
     let mut k = 0;
     while k + 2 < ear.len() {
-        store(row, ear[k + 1], ear[k + d]);
+        rows::store(row, ear[k + 1], ear[k + d]);
         k += 1;
     }
 }
@@ -94,11 +75,11 @@ fn set_first_parents(ear: &[u16], tree1: &mut [u16], tree2: &mut [u16])
     let root = ear[0];
     let first = ear[len - 1];
     set_neighbours(ear, 0, tree1);
-    store(tree1, first, ear[len - 2]);
-    store(tree1, root, root);
+    rows::store(tree1, first, ear[len - 2]);
+    rows::store(tree1, root, root);
     set_neighbours(ear, 2, tree2);
-    store(tree2, first, root);
-    store(tree2, root, root);
+    rows::store(tree2, first, root);
+    rows::store(tree2, root, root);
 }
 
 // Trees 1 and 2 of a later ear, written from A to B, or from B to A.
@@ -114,14 +95,14 @@ fn set_later_parents(upward: bool, ear: &[u16], tree1: &mut [u16], tree2: &mut [
     set_neighbours(ear, 0, tree2);
 }
 
-// The number of long ears after one more ear; it stops at 1,024.
+// The number of long ears after one more ear; it stops at the limit of N.
 fn count_long(longs: u16, ear: &[u16]) -> u16
     ensures { λ r. ⌜ r ≡ longsAfter longs (now (ear .entry)) ⌝ }
 {
     if ear.len() == 2 {
         return longs;
     }
-    if 1024 <= longs {
+    if network::MAX_SWITCHES <= longs {
         return longs;
     }
     longs + 1
@@ -192,23 +173,12 @@ pub fn check_used(links: &[u16], used: &[u8]) -> Close
     let m = links.len() / 2;
     let mut i = 0;
     while i < m {
-        if judge::mark_at(used, i) == 0 {
+        if rows::mark_at(used, i) == 0 {
             return Close::Refused(23, i as u16);
         }
         i += 1;
     }
     Close::Closed
-}
-
-// Every entry is x.
-fn fill(row: &mut [u16], x: u16)
-    ensures { λ _. ⌜ now (row .exit) ≡ replicate (length (now (row .entry))) x ⌝ }
-{
-    let mut v = 0;
-    while v < row.len() {
-        row[v] = x;
-        v += 1;
-    }
 }
 
 // The entry of a is b, where b is lower and born later than a.
@@ -219,7 +189,7 @@ fn lower(row: &mut [u16], births: &[u16], a: u16, b: u16)
     if row.len() <= i {
         return;
     }
-    if order::entry(births, b) <= order::entry(births, a) {
+    if rows::entry(births, b) <= rows::entry(births, a) {
         return;
     }
     if row[i] <= b {
@@ -233,7 +203,7 @@ fn set_lowest(row: &mut [u16], n: u16, links: &[u16], births: &[u16])
     ensures { λ _. ⌜ now (row .exit) ≡ assigned (now (row .entry)) (λ v. v) (λ v. low (λ x. joined (tableOf (now (links .entry))) v x && ltb (at (now (births .entry)) v) (at (now (births .entry)) x)) n) (length (now (row .entry))) ⌝ }
 {
     let m = links.len() / 2;
-    fill(row, n);
+    rows::fill(row, n);
     let mut i = 0;
     while i < m {
         let a = links[2 * i];
@@ -249,6 +219,6 @@ pub fn set_tree3(row: &mut [u16], n: u16, links: &[u16], root: u16, last: u16, b
     ensures { λ _. ⌜ now (row .exit) ≡ tree3Of (networkOf n (now (links .entry)) root 0 last) (now (births .entry)) (now (row .entry)) ⌝ }
 {
     set_lowest(row, n, links, births);
-    store(row, last, root);
-    store(row, root, root);
+    rows::store(row, last, root);
+    rows::store(row, root, root);
 }

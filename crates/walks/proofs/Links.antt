@@ -1,9 +1,8 @@
 -- The number of switches of a walk that is cut after a limit, as a loop along the row counts them, k of them behind it.
--- A cut walk has at most one switch more than the limit.
+-- The loop ends at the root or at the limit.
 use mathlib.Core.Path.{_≡_}
-use mathlib.Core.Bool.{Bool, true, false, cond}
-use mathlib.Core.List.{[], _∷_}
-use Prim.Native.Nat.{ℕ, zero, suc, _+_, _-_, _≤_, _<_}
+use mathlib.Core.Bool.{true, false}
+use Prim.Native.Nat.{ℕ, suc, _+_, _-_, _<_}
 use native.Mathlib.Omega.{arith}
 use lib.Dec.{eqb}
 use lib.ListN.{length}
@@ -24,13 +23,3 @@ module _ (root : ℕ) (p : ℕ → ℕ) (limit : ℕ) where
   pub walk-cut : (v k : ℕ) → k ≡ limit → k + length (walkBy root p (limit - k) v) ≡ suc k
   unfolding walkBy
   walk-cut v k h = let e : limit - k ≡ 0 = omega arith in rw e (omega arith)
-
-pub walk-bound : (root : ℕ) (p : ℕ → ℕ) (limit v : ℕ) → (0 < length (walkBy root p limit v)) × (length (walkBy root p limit v) ≤ suc limit)
-unfolding walkBy
-walk-bound root p zero v = omega arith
-walk-bound root p (suc k) v = go (eqb v root) (walk-bound root p k (p v) .1)
-  where
-    go : (b : Bool) → length (walkBy root p k (p v)) ≤ suc k
-        → (0 < length (cond b (v ∷ []) (v ∷ walkBy root p k (p v)))) × (length (cond b (v ∷ []) (v ∷ walkBy root p k (p v))) ≤ suc (suc k))
-    go true h = omega arith
-    go false h = omega arith

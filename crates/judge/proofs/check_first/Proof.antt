@@ -2,18 +2,24 @@ use mathlib.Core.Path.{sym, _∙_}
 use mathlib.Core.List.{[]}
 use Rattle.mondschein.proofs.Checks.{check-hit, check-miss}
 use Rattle.network.specs.Load.{networkOf}
-use Rattle.judge.specs.Ear.{marked}
+use Rattle.rows.specs.Rows.{marked}
 use Rattle.judge.proofs.Last.{first-15}
 use Rattle.judge.proofs.Answers.{first-12-root, first-12-first, first-past}
 use borrow.Author.Needs.{needs}
 use Rattle.judge.proofs.check_first.Statement.{statement}
 use Rattle.judge.proofs.check_first.Tie as tie
 
+-- the way back from a place to the one before it that is cited
+abbrev before-else1 : tie.Else1 → tie.Start
+before-else1 c = c .before .before .before .before .before
+
 shared-slice-read-if1 : tie.Need-shared-slice-read-if1
 shared-slice-read-if1 c = search needs
 
 returns : tie.Need-returns
-returns c = let a = c .before .before .before .before .before .args in sym (first-12-root (a .n) (a .links .now) (a .root) (a .first) (a .last) (a .births .now) (a .ear .now) (c .if1 .taken))
+returns c =
+    let a = c .before .before .before .before .before .args in
+    sym (first-12-root (a .n) (a .links .now) (a .root) (a .first) (a .last) (a .births .now) (a .ear .now) (c .if1 .taken))
 
 sub-if2 : tie.Need-sub-if2
 sub-if2 c = search needs
@@ -25,7 +31,9 @@ shared-slice-read-if2 : tie.Need-shared-slice-read-if2
 shared-slice-read-if2 c = search needs
 
 returns-2 : tie.Need-returns-2
-returns-2 c = let a = c .before .before .before .before .before .before .before .args in sym (first-12-first (a .n) (a .links .now) (a .root) (a .first) (a .last) (a .births .now) (a .ear .now) (c .if2 .taken))
+returns-2 c =
+    let a = before-else1 (c .before .before) .args in
+    sym (first-12-first (a .n) (a .links .now) (a .root) (a .first) (a .last) (a .births .now) (a .ear .now) (c .if2 .taken))
 
 position-of-requires : tie.Need-position-of-requires
 position-of-requires c κs = search needs
@@ -34,7 +42,18 @@ cast-t17 : tie.Need-cast-t17
 cast-t17 c = search needs
 
 returns-3 : tie.Need-returns-3
-returns-3 c = let a = c .before .before .before .before .before .before .before .before .before .args in sym (first-past (a .n) (a .links .now) (a .root) (a .first) (a .last) (a .births .now) (a .ear .now) (c .before .before .before .before .if1 .left) (c .before .before .if2 .left) ∙ check-hit 15 _ _ _ (c .before .position-of .ensures ∙ first-15 (networkOf (a .n) (a .links .now) (a .root) (a .first) (a .last)) (marked (a .births .now)) (marked []) (a .ear .now) (c .before .before .before .before .before .before .before .before .before .pre .0)) (c .if3 .taken))
+returns-3 c =
+    let at-position-of = c .before in
+    let at-if2 = at-position-of .before in
+    let at-if1 = at-if2 .before .before in
+    let start = before-else1 at-if1 in
+    let a = start .args in
+    sym
+    (first-past (a .n) (a .links .now) (a .root) (a .first) (a .last) (a .births .now) (a .ear .now) (at-if1 .if1 .left) (at-if2 .if2 .left)
+    ∙ check-hit 15 _ _ _
+    (at-position-of .position-of .ensures
+    ∙ first-15 (networkOf (a .n) (a .links .now) (a .root) (a .first) (a .last)) (marked (a .births .now)) (marked []) (a .ear .now) (start .pre .0))
+    (c .if3 .taken))
 
 first-cut-off-requires : tie.Need-first-cut-off-requires
 first-cut-off-requires c κs = search needs
@@ -43,13 +62,41 @@ cast-t18 : tie.Need-cast-t18
 cast-t18 c = search needs
 
 returns-4 : tie.Need-returns-4
-returns-4 c = let a = c .before .before .before .before .before .before .before .before .before .before .before .args in sym (first-past (a .n) (a .links .now) (a .root) (a .first) (a .last) (a .births .now) (a .ear .now) (c .before .before .before .before .before .before .if1 .left) (c .before .before .before .before .if2 .left) ∙ check-miss 15 _ _ _ (c .before .before .before .position-of .ensures ∙ first-15 (networkOf (a .n) (a .links .now) (a .root) (a .first) (a .last)) (marked (a .births .now)) (marked []) (a .ear .now) (c .before .before .before .before .before .before .before .before .before .before .before .pre .0)) (c .before .before .if3 .left) ∙ check-hit 16 _ _ _ (c .before .first-cut-off .ensures) (c .if4 .taken))
+returns-4 c =
+    let at-first-cut-off = c .before in
+    let at-if3 = at-first-cut-off .before in
+    let at-position-of = at-if3 .before in
+    let at-if2 = at-position-of .before in
+    let at-if1 = at-if2 .before .before in
+    let start = before-else1 at-if1 in
+    let a = start .args in
+    sym
+    (first-past (a .n) (a .links .now) (a .root) (a .first) (a .last) (a .births .now) (a .ear .now) (at-if1 .if1 .left) (at-if2 .if2 .left)
+    ∙ check-miss 15 _ _ _
+    (at-position-of .position-of .ensures
+    ∙ first-15 (networkOf (a .n) (a .links .now) (a .root) (a .first) (a .last)) (marked (a .births .now)) (marked []) (a .ear .now) (start .pre .0))
+    (at-if3 .if3 .left)
+    ∙ check-hit 16 _ _ _ (at-first-cut-off .first-cut-off .ensures) (c .if4 .taken))
 
 cast-t12 : tie.Need-cast-t12
 cast-t12 c = search needs
 
 returns-5 : tie.Need-returns-5
-returns-5 c = let a = c .before .before .before .before .before .before .before .before .before .before .before .args in sym (first-past (a .n) (a .links .now) (a .root) (a .first) (a .last) (a .births .now) (a .ear .now) (c .before .before .before .before .before .before .if1 .left) (c .before .before .before .before .if2 .left) ∙ check-miss 15 _ _ _ (c .before .before .before .position-of .ensures ∙ first-15 (networkOf (a .n) (a .links .now) (a .root) (a .first) (a .last)) (marked (a .births .now)) (marked []) (a .ear .now) (c .before .before .before .before .before .before .before .before .before .before .before .pre .0)) (c .before .before .if3 .left) ∙ check-miss 16 _ _ _ (c .before .first-cut-off .ensures) (c .if4 .left))
+returns-5 c =
+    let at-first-cut-off = c .before in
+    let at-if3 = at-first-cut-off .before in
+    let at-position-of = at-if3 .before in
+    let at-if2 = at-position-of .before in
+    let at-if1 = at-if2 .before .before in
+    let start = before-else1 at-if1 in
+    let a = start .args in
+    sym
+    (first-past (a .n) (a .links .now) (a .root) (a .first) (a .last) (a .births .now) (a .ear .now) (at-if1 .if1 .left) (at-if2 .if2 .left)
+    ∙ check-miss 15 _ _ _
+    (at-position-of .position-of .ensures
+    ∙ first-15 (networkOf (a .n) (a .links .now) (a .root) (a .first) (a .last)) (marked (a .births .now)) (marked []) (a .ear .now) (start .pre .0))
+    (at-if3 .if3 .left)
+    ∙ check-miss 16 _ _ _ (at-first-cut-off .first-cut-off .ensures) (c .if4 .left))
 
 pub check-first-spec : {M : Type 1} → statement M
 check-first-spec =

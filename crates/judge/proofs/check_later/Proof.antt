@@ -6,12 +6,19 @@ use lib.ListN.{length}
 use Rattle.mondschein.specs.Network.{newCount}
 use Rattle.mondschein.specs.Judge.{given}
 use Rattle.mondschein.proofs.Checks.{check-hit, check-miss}
-use Rattle.judge.specs.Ear.{marked}
+use Rattle.rows.specs.Rows.{marked}
 use Rattle.judge.proofs.Place.{part-hit, part-miss}
 use Rattle.judge.proofs.Answers.{cutOff, later-past}
 use borrow.Author.Needs.{needs}
 use Rattle.judge.proofs.check_later.Statement.{statement}
 use Rattle.judge.proofs.check_later.Tie as tie
+
+-- the way back from a place to the one before it that is cited
+abbrev before-first-unborn-end : tie.After-first-unborn-end → tie.Start
+before-first-unborn-end c = c .before .before .before .before
+
+abbrev before-first-born : tie.After-first-born → tie.After-first-unborn-end
+before-first-born c = c .before .before .before
 
 first-unborn-end-requires : tie.Need-first-unborn-end-requires
 first-unborn-end-requires c κs = search needs
@@ -21,7 +28,12 @@ cast-t14 c = search needs
 
 returns : tie.Need-returns
 unfolding newCount
-returns c = let a = c .before .before .before .before .before .args in sym (later-past (a .n) (a .links .now) (a .root) 0 (a .last) (a .births .now) (a .ear .now) ∙ check-hit 13 _ _ _ (c .before .first-unborn-end .ensures) (omega arith))
+returns c =
+    let at-first-unborn-end = c .before in
+    let a = before-first-unborn-end at-first-unborn-end .args in
+    sym
+    (later-past (a .n) (a .links .now) (a .root) 0 (a .last) (a .births .now) (a .ear .now)
+    ∙ check-hit 13 _ _ _ (at-first-unborn-end .first-unborn-end .ensures) (omega arith))
 
 sub-part : tie.Need-sub-part
 sub-part c = search needs
@@ -49,7 +61,14 @@ cast-t20 c = search needs
 
 returns-2 : tie.Need-returns-2
 unfolding newCount
-returns-2 c = let a = c .before .before .before .before .before .before .before .before .args in sym (later-past (a .n) (a .links .now) (a .root) 0 (a .last) (a .births .now) (a .ear .now) ∙ check-miss 13 _ _ _ (c .before .before .before .before .first-unborn-end .ensures) (omega arith) ∙ check-hit 14 _ _ _ (part-hit (a .ear .now) (marked (a .births .now)) (c .before .first-born .ensures) (omega arith)) (omega arith))
+returns-2 c =
+    let at-first-born = c .before in
+    let at-first-unborn-end = before-first-born at-first-born in
+    let a = before-first-unborn-end at-first-unborn-end .args in
+    sym
+    (later-past (a .n) (a .links .now) (a .root) 0 (a .last) (a .births .now) (a .ear .now)
+    ∙ check-miss 13 _ _ _ (at-first-unborn-end .first-unborn-end .ensures) (omega arith)
+    ∙ check-hit 14 _ _ _ (part-hit (a .ear .now) (marked (a .births .now)) (at-first-born .first-born .ensures) (omega arith)) (omega arith))
 
 last-too-early-requires : tie.Need-last-too-early-requires
 last-too-early-requires c κs = search needs
@@ -59,7 +78,16 @@ cast-t21 c = search needs
 
 returns-3 : tie.Need-returns-3
 unfolding newCount
-returns-3 c = let a = c .before .before .before .before .before .before .before .before .before .before .args in sym (later-past (a .n) (a .links .now) (a .root) 0 (a .last) (a .births .now) (a .ear .now) ∙ check-miss 13 _ _ _ (c .before .before .before .before .before .before .first-unborn-end .ensures) (omega arith) ∙ check-miss 14 _ _ _ (part-miss (a .ear .now) (marked (a .births .now)) (c .before .before .before .first-born .ensures) (omega arith)) (omega arith) ∙ check-hit 15 _ _ _ (c .before .last-too-early .ensures) (omega arith))
+returns-3 c =
+    let at-last-too-early = c .before in
+    let at-first-born = at-last-too-early .before .before in
+    let at-first-unborn-end = before-first-born at-first-born in
+    let a = before-first-unborn-end at-first-unborn-end .args in
+    sym
+    (later-past (a .n) (a .links .now) (a .root) 0 (a .last) (a .births .now) (a .ear .now)
+    ∙ check-miss 13 _ _ _ (at-first-unborn-end .first-unborn-end .ensures) (omega arith)
+    ∙ check-miss 14 _ _ _ (part-miss (a .ear .now) (marked (a .births .now)) (at-first-born .first-born .ensures) (omega arith)) (omega arith)
+    ∙ check-hit 15 _ _ _ (at-last-too-early .last-too-early .ensures) (omega arith))
 
 first-cut-off-requires : tie.Need-first-cut-off-requires
 first-cut-off-requires c κs = search needs
@@ -75,7 +103,21 @@ cast-t23 c = search needs
 
 returns-4 : tie.Need-returns-4
 unfolding newCount
-returns-4 c = let a = c .before .before .before .before .before .before .before .before .before .before .before .before .args in sym (later-past (a .n) (a .links .now) (a .root) 0 (a .last) (a .births .now) (a .ear .now) ∙ check-miss 13 _ _ _ (c .before .before .before .before .before .before .before .before .first-unborn-end .ensures) (omega arith) ∙ check-miss 14 _ _ _ (part-miss (a .ear .now) (marked (a .births .now)) (c .before .before .before .before .before .first-born .ensures) (omega arith)) (omega arith) ∙ check-miss 15 _ _ _ (c .before .before .before .last-too-early .ensures) (omega arith) ∙ check-hit 16 _ _ _ (part-hit (a .ear .now) (cutOff (a .n) (a .last) (a .links .now) (a .births .now) (a .ear .now)) (c .before .first-cut-off .ensures) (omega arith)) (omega arith))
+returns-4 c =
+    let at-first-cut-off = c .before in
+    let at-last-too-early = at-first-cut-off .before .before in
+    let at-first-born = at-last-too-early .before .before in
+    let at-first-unborn-end = before-first-born at-first-born in
+    let a = before-first-unborn-end at-first-unborn-end .args in
+    sym
+    (later-past (a .n) (a .links .now) (a .root) 0 (a .last) (a .births .now) (a .ear .now)
+    ∙ check-miss 13 _ _ _ (at-first-unborn-end .first-unborn-end .ensures) (omega arith)
+    ∙ check-miss 14 _ _ _ (part-miss (a .ear .now) (marked (a .births .now)) (at-first-born .first-born .ensures) (omega arith)) (omega arith)
+    ∙ check-miss 15 _ _ _ (at-last-too-early .last-too-early .ensures) (omega arith)
+    ∙ check-hit 16 _ _ _
+    (part-hit (a .ear .now) (cutOff (a .n) (a .last) (a .links .now) (a .births .now) (a .ear .now)) (at-first-cut-off .first-cut-off .ensures)
+    (omega arith))
+    (omega arith))
 
 sub-t15 : tie.Need-sub-t15
 sub-t15 c = search needs
@@ -85,7 +127,22 @@ cast-t24 c = search needs
 
 returns-5 : tie.Need-returns-5
 unfolding newCount
-returns-5 c = let a = c .before .before .before .before .before .before .before .before .before .before .before .before .args in ap (λ (k : ℕ). given (k ∷ [])) (let z : length (a .ear .now) - 2 ≡ pred (pred (length (a .ear .now))) = omega arith in z) ∙ sym (later-past (a .n) (a .links .now) (a .root) 0 (a .last) (a .births .now) (a .ear .now) ∙ check-miss 13 _ _ _ (c .before .before .before .before .before .before .before .before .first-unborn-end .ensures) (omega arith) ∙ check-miss 14 _ _ _ (part-miss (a .ear .now) (marked (a .births .now)) (c .before .before .before .before .before .first-born .ensures) (omega arith)) (omega arith) ∙ check-miss 15 _ _ _ (c .before .before .before .last-too-early .ensures) (omega arith) ∙ check-miss 16 _ _ _ (part-miss (a .ear .now) (cutOff (a .n) (a .last) (a .links .now) (a .births .now) (a .ear .now)) (c .before .first-cut-off .ensures) (omega arith)) (omega arith))
+returns-5 c =
+    let at-first-cut-off = c .before in
+    let at-last-too-early = at-first-cut-off .before .before in
+    let at-first-born = at-last-too-early .before .before in
+    let at-first-unborn-end = before-first-born at-first-born in
+    let a = before-first-unborn-end at-first-unborn-end .args in
+    ap (λ (k : ℕ). given (k ∷ [])) (let z : length (a .ear .now) - 2 ≡ pred (pred (length (a .ear .now))) = omega arith in z)
+    ∙ sym
+    (later-past (a .n) (a .links .now) (a .root) 0 (a .last) (a .births .now) (a .ear .now)
+    ∙ check-miss 13 _ _ _ (at-first-unborn-end .first-unborn-end .ensures) (omega arith)
+    ∙ check-miss 14 _ _ _ (part-miss (a .ear .now) (marked (a .births .now)) (at-first-born .first-born .ensures) (omega arith)) (omega arith)
+    ∙ check-miss 15 _ _ _ (at-last-too-early .last-too-early .ensures) (omega arith)
+    ∙ check-miss 16 _ _ _
+    (part-miss (a .ear .now) (cutOff (a .n) (a .last) (a .links .now) (a .births .now) (a .ear .now)) (at-first-cut-off .first-cut-off .ensures)
+    (omega arith))
+    (omega arith))
 
 pub check-later-spec : {M : Type 1} → statement M
 check-later-spec =

@@ -9,7 +9,7 @@ use lib.Dec.{eqb}
 use Rattle.mondschein.specs.Network.{low, any, at, holds, joined}
 use Rattle.mondschein.proofs.Search.{rest, rest-begin, rest-hit, rest-miss, rest-end}
 use Rattle.network.specs.Load.{tableOf}
-use Rattle.judge.specs.Ear.{marked}
+use Rattle.rows.specs.Rows.{marked}
 use Rattle.judge.proofs.Neighbours.{and-failed, and-passed}
 use Rattle.judge.proofs.first_cut_off.Statement.{statement}
 use Rattle.judge.proofs.first_cut_off.Tie as tie
@@ -33,7 +33,15 @@ unborn-neighbour-requires : tie.Need-unborn-neighbour-requires Inv-loop μ-loop
 unborn-neighbour-requires c κs = search needs
 
 returns : tie.Need-returns Inv-loop μ-loop
-returns c = sym (c .before .before .before .before .before .loop .inv .1 ∙ rest-hit _ _ _ (c .before .before .before .before .loop-test .taken) (and-passed _ _ (ap not (ne-eqb _ _ (c .before .before .if1 .taken))) ∙ ap not (sym (c .before .unborn-neighbour .ensures)) ∙ c .if2 .taken))
+returns c =
+    let at-unborn-neighbour = c .before in
+    let at-if1 = at-unborn-neighbour .before in
+    let at-loop-test = at-if1 .before .before in
+    let at-loop = at-loop-test .before in
+    sym
+    (at-loop .loop .inv .1
+    ∙ rest-hit _ _ _ (at-loop-test .loop-test .taken)
+    (and-passed _ _ (ap not (ne-eqb _ _ (at-if1 .if1 .taken))) ∙ ap not (sym (at-unborn-neighbour .unborn-neighbour .ensures)) ∙ c .if2 .taken))
 
 add-k : tie.Need-add-k Inv-loop μ-loop
 add-k c = search needs
@@ -42,7 +50,15 @@ loop-less : tie.Need-loop-less Inv-loop μ-loop
 loop-less c = search needs
 
 loop-again : tie.Need-loop-again Inv-loop μ-loop
-loop-again c = (search needs, c .before .before .before .loop .inv .1 ∙ rest-miss _ _ _ (c .before .before .loop-test .taken) (⊎-elim (λ w. and-passed _ _ (ap not (ne-eqb _ _ (w .0 .taken))) ∙ ap not (sym (w .1 .ensures)) ∙ w .2 .left) (λ w. and-failed _ _ (ap not (eq-eqb _ _ (w .left)))) (c .if1 .came)))
+loop-again c =
+    let at-loop-test = c .before .before in
+    let at-loop = at-loop-test .before in (
+      search needs,
+      at-loop .loop .inv .1
+          ∙ rest-miss _ _ _ (at-loop-test .loop-test .taken)
+          (⊎-elim (λ w. and-passed _ _ (ap not (ne-eqb _ _ (w .0 .taken))) ∙ ap not (sym (w .1 .ensures)) ∙ w .2 .left)
+          (λ w. and-failed _ _ (ap not (eq-eqb _ _ (w .left)))) (c .if1 .came)),
+    )
 
 returns-2 : tie.Need-returns-2 Inv-loop μ-loop
 returns-2 c = sym (c .before .loop .inv .1 ∙ rest-end _ _ _ (c .loop-test .left))

@@ -5,7 +5,8 @@ use native.Mathlib.Omega.{arith}
 use lib.ListN.{length}
 use borrow.Author.Needs.{needs}
 use Rattle.judge.proofs.Shape.{notFree}
-use Rattle.judge.proofs.Tests.{marked-hit, marked-miss, not-joined-hit, not-joined-miss}
+use Rattle.rows.proofs.Rows.{marked-hit, marked-miss}
+use Rattle.judge.proofs.Tests.{not-joined-hit, not-joined-miss}
 use Rattle.mondschein.specs.Network.{low, at, size}
 use Rattle.mondschein.proofs.Logic.{or-left}
 use Rattle.mondschein.proofs.Search.{rest, rest-begin, rest-hit, rest-miss, rest-end}
@@ -18,6 +19,13 @@ Inv-loop links used ear m k₀ k = (k ≤ pred (length ear)) × (m ≡ size (tab
 
 abbrev μ-loop : tie.MeasureT-loop
 μ-loop links used ear m k₀ k = length ear - k
+
+-- the way back from a place to the one before it that is cited
+abbrev before-loop : tie.At-loop Inv-loop μ-loop → tie.Start Inv-loop μ-loop
+before-loop c = c .before .before .before .before
+
+abbrev before-link-of : tie.After-link-of Inv-loop μ-loop → tie.At-loop Inv-loop μ-loop
+before-link-of c = c .before .before .before .before
 
 loop-holds : tie.Need-loop-holds Inv-loop μ-loop
 unfolding size
@@ -45,13 +53,29 @@ link-of-requires : tie.Need-link-of-requires Inv-loop μ-loop
 link-of-requires c κs = search needs
 
 returns : tie.Need-returns Inv-loop μ-loop
-returns c = sym (c .before .before .before .before .before .loop .inv .2 ∙ rest-hit _ _ _ (search needs) (or-left _ _ (not-joined-hit _ _ _ (c .before .before .before .before .before .loop .inv .1) (c .before .link-of .ensures) (c .if1 .taken))))
+returns c =
+    let at-link-of = c .before in
+    let at-loop = before-link-of at-link-of in
+    sym
+    (at-loop .loop .inv .2
+    ∙ rest-hit _ _ _ (search needs) (or-left _ _ (not-joined-hit _ _ _ (at-loop .loop .inv .1) (at-link-of .link-of .ensures) (c .if1 .taken))))
 
 mark-at-requires : tie.Need-mark-at-requires Inv-loop μ-loop
 mark-at-requires c κs = search needs
 
 returns-2 : tie.Need-returns-2 Inv-loop μ-loop
-returns-2 c = sym (c .before .before .before .before .before .before .before .loop .inv .2 ∙ rest-hit _ _ _ (search needs) (ap₂ _||_ (not-joined-miss _ _ _ (c .before .before .before .before .before .before .before .loop .inv .1) (c .before .before .before .link-of .ensures) (c .before .before .if1 .left)) (marked-hit (c .before .mark-at .ensures ∙ ap (λ (l : ℕ). at (c .before .before .before .before .before .before .before .before .before .before .before .args .used .now) l) (c .before .before .before .link-of .ensures)) (omega (arith, c .if2 .taken)))))
+returns-2 c =
+    let at-mark-at = c .before in
+    let at-if1 = at-mark-at .before in
+    let at-link-of = at-if1 .before in
+    let at-loop = before-link-of at-link-of in
+    let start = before-loop at-loop in
+    sym
+    (at-loop .loop .inv .2
+    ∙ rest-hit _ _ _ (search needs)
+    (ap₂ _||_ (not-joined-miss _ _ _ (at-loop .loop .inv .1) (at-link-of .link-of .ensures) (at-if1 .if1 .left))
+    (marked-hit (at-mark-at .mark-at .ensures ∙ ap (λ (l : ℕ). at (start .args .used .now) l) (at-link-of .link-of .ensures))
+    (omega (arith, c .if2 .taken)))))
 
 add-k : tie.Need-add-k Inv-loop μ-loop
 add-k c = search needs
@@ -60,7 +84,20 @@ loop-less : tie.Need-loop-less Inv-loop μ-loop
 loop-less c = search needs
 
 loop-again : tie.Need-loop-again Inv-loop μ-loop
-loop-again c = (search needs, c .before .before .before .before .before .before .before .loop .inv .1, c .before .before .before .before .before .before .before .loop .inv .2 ∙ rest-miss _ _ _ (search needs) (ap₂ _||_ (not-joined-miss _ _ _ (c .before .before .before .before .before .before .before .loop .inv .1) (c .before .before .before .link-of .ensures) (c .before .before .if1 .left)) (marked-miss (c .before .mark-at .ensures ∙ ap (λ (l : ℕ). at (c .before .before .before .before .before .before .before .before .before .before .before .args .used .now) l) (c .before .before .before .link-of .ensures)) (omega (arith, c .if2 .left)))))
+loop-again c =
+    let at-mark-at = c .before in
+    let at-if1 = at-mark-at .before in
+    let at-link-of = at-if1 .before in
+    let at-loop = before-link-of at-link-of in
+    let start = before-loop at-loop in (
+      search needs,
+      at-loop .loop .inv .1,
+      at-loop .loop .inv .2
+          ∙ rest-miss _ _ _ (search needs)
+          (ap₂ _||_ (not-joined-miss _ _ _ (at-loop .loop .inv .1) (at-link-of .link-of .ensures) (at-if1 .if1 .left))
+          (marked-miss (at-mark-at .mark-at .ensures ∙ ap (λ (l : ℕ). at (start .args .used .now) l) (at-link-of .link-of .ensures))
+          (omega (arith, c .if2 .left)))),
+    )
 
 returns-3 : tie.Need-returns-3 Inv-loop μ-loop
 returns-3 c = sym (c .before .loop .inv .2 ∙ rest-end _ _ _ (search needs))

@@ -16,6 +16,10 @@ Inv-loop links ear m k₀ k = (k ≤ pred (length ear)) × (m ≡ size (tableOf 
 abbrev μ-loop : tie.MeasureT-loop
 μ-loop links ear m k₀ k = length ear - k
 
+-- the way back from a place to the one before it that is cited
+abbrev before-link-of : tie.After-link-of Inv-loop μ-loop → tie.At-loop Inv-loop μ-loop
+before-link-of c = c .before .before .before .before
+
 loop-holds : tie.Need-loop-holds Inv-loop μ-loop
 unfolding size
 loop-holds c = (search needs, search needs, rest-begin _ _)
@@ -42,7 +46,12 @@ link-of-requires : tie.Need-link-of-requires Inv-loop μ-loop
 link-of-requires c κs = search needs
 
 returns : tie.Need-returns Inv-loop μ-loop
-returns c = sym (c .before .before .before .before .before .loop .inv .2 ∙ rest-hit _ _ _ (search needs) (not-joined-hit _ _ _ (c .before .before .before .before .before .loop .inv .1) (c .before .link-of .ensures) (c .if1 .taken)))
+returns c =
+    let at-link-of = c .before in
+    let at-loop = before-link-of at-link-of in
+    sym
+    (at-loop .loop .inv .2 ∙ rest-hit _ _ _ (search needs)
+    (not-joined-hit _ _ _ (at-loop .loop .inv .1) (at-link-of .link-of .ensures) (c .if1 .taken)))
 
 add-k : tie.Need-add-k Inv-loop μ-loop
 add-k c = search needs
@@ -51,7 +60,14 @@ loop-less : tie.Need-loop-less Inv-loop μ-loop
 loop-less c = search needs
 
 loop-again : tie.Need-loop-again Inv-loop μ-loop
-loop-again c = (search needs, c .before .before .before .before .before .loop .inv .1, c .before .before .before .before .before .loop .inv .2 ∙ rest-miss _ _ _ (search needs) (not-joined-miss _ _ _ (c .before .before .before .before .before .loop .inv .1) (c .before .link-of .ensures) (c .if1 .left)))
+loop-again c =
+    let at-link-of = c .before in
+    let at-loop = before-link-of at-link-of in (
+      search needs,
+      at-loop .loop .inv .1,
+      at-loop .loop .inv .2
+          ∙ rest-miss _ _ _ (search needs) (not-joined-miss _ _ _ (at-loop .loop .inv .1) (at-link-of .link-of .ensures) (c .if1 .left)),
+    )
 
 returns-2 : tie.Need-returns-2 Inv-loop μ-loop
 returns-2 c = sym (c .before .loop .inv .2 ∙ rest-end _ _ _ (search needs))

@@ -6,7 +6,8 @@ use lib.Dec.{ltb}
 use Rattle.mondschein.specs.Network.{low, size, holds}
 use Rattle.mondschein.proofs.Search.{rest, rest-begin, rest-miss, true-any, any-end}
 use Rattle.network.specs.Load.{tableOf}
-use Rattle.judge.specs.Ear.{marked, leadsTo}
+use Rattle.rows.specs.Rows.{marked}
+use Rattle.judge.specs.Ear.{leadsTo}
 use Rattle.judge.proofs.Neighbours.{scan}
 use Rattle.judge.proofs.unborn_neighbour.Statement.{statement}
 use Rattle.judge.proofs.unborn_neighbour.Tie as tie

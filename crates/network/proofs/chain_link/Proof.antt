@@ -5,6 +5,10 @@ use borrow.Author.Needs.{needs}
 use Rattle.network.proofs.chain_link.Statement.{statement}
 use Rattle.network.proofs.chain_link.Tie as tie
 
+-- the way back from a place to the one before it that is cited
+abbrev before-lower-end : tie.After-lower-end → tie.Start
+before-lower-end c = c .before .before .before .before
+
 lower-end-requires : tie.Need-lower-end-requires
 lower-end-requires c κs = search needs
 
@@ -12,7 +16,12 @@ cast-v : tie.Need-cast-v
 cast-v c = search needs
 
 returns : tie.Need-returns
-returns c = let a = c .before .before .before .before .before .args in chained-past (tableOf (a .links .now)) (a .i) (a .head .now) (a .next .now) (c .before .before .before .before .before .pre .0) (omega (arith, c .if1 .taken, c .before .lower-end .ensures))
+returns c =
+    let at-lower-end = c .before in
+    let start = before-lower-end at-lower-end in
+    let a = start .args in
+    chained-past (tableOf (a .links .now)) (a .i) (a .head .now) (a .next .now) (start .pre .0)
+    (omega (arith, c .if1 .taken, at-lower-end .lower-end .ensures))
 
 mul-next : tie.Need-mul-next
 mul-next c = search needs
@@ -45,7 +54,13 @@ same-length-2 : tie.Need-same-length-2
 same-length-2 c = search needs
 
 returns-2 : tie.Need-returns-2
-returns-2 c = let a = c .before .before .before .before .before .before .args in chained-more (tableOf (a .links .now)) (a .i) (a .head .now) (a .next .now) (c .before .before .before .before .before .before .pre .0) _ (c .before .before .lower-end .ensures) (c .before .if1 .left) (c .before .before .before .before .before .before .pre .2)
+returns-2 c =
+    let at-if1 = c .before in
+    let at-lower-end = at-if1 .before in
+    let start = before-lower-end at-lower-end in
+    let a = start .args in
+    chained-more (tableOf (a .links .now)) (a .i) (a .head .now) (a .next .now) (start .pre .0) _ (at-lower-end .lower-end .ensures)
+    (at-if1 .if1 .left) (start .pre .2)
 
 pub chain-link-spec : {M : Type 1} → statement M
 chain-link-spec =

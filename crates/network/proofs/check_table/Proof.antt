@@ -26,7 +26,12 @@ cast-t13 c = search needs
 
 returns-2 : tie.Need-returns-2
 unfolding tableChecks linkTooLarge selfLink former latter size
-returns-2 c = sym (check-miss 2 _ _ _ (c .before .before .before .first-link-too-large .ensures) (omega arith) ∙ check-hit 3 _ _ _ (c .before .first-self-link .ensures) (omega arith))
+returns-2 c =
+    let at-first-self-link = c .before in
+    let at-first-link-too-large = at-first-self-link .before .before in
+    sym
+    (check-miss 2 _ _ _ (at-first-link-too-large .first-link-too-large .ensures) (omega arith)
+    ∙ check-hit 3 _ _ _ (at-first-self-link .first-self-link .ensures) (omega arith))
 
 first-repeated-link-requires : tie.Need-first-repeated-link-requires
 first-repeated-link-requires c κs = search needs
@@ -36,14 +41,29 @@ cast-t14 c = search needs
 
 returns-3 : tie.Need-returns-3
 unfolding tableChecks linkTooLarge selfLink repeatedLink joins former latter size
-returns-3 c = sym (check-miss 2 _ _ _ (c .before .before .before .before .before .first-link-too-large .ensures) (omega arith) ∙ check-miss 3 _ _ _ (c .before .before .before .first-self-link .ensures) (omega arith) ∙ check-hit 4 _ _ _ (c .before .first-repeated-link .ensures) (omega arith))
+returns-3 c =
+    let at-first-repeated-link = c .before in
+    let at-first-self-link = at-first-repeated-link .before .before in
+    let at-first-link-too-large = at-first-self-link .before .before in
+    sym
+    (check-miss 2 _ _ _ (at-first-link-too-large .first-link-too-large .ensures) (omega arith)
+    ∙ check-miss 3 _ _ _ (at-first-self-link .first-self-link .ensures) (omega arith)
+    ∙ check-hit 4 _ _ _ (at-first-repeated-link .first-repeated-link .ensures) (omega arith))
 
 check-names-requires : tie.Need-check-names-requires
 check-names-requires c κs = search needs
 
 returns-4 : tie.Need-returns-4
 unfolding tableChecks linkTooLarge selfLink repeatedLink joins former latter size
-returns-4 c = c .check-names .ensures ∙ sym (check-miss 2 _ _ _ (c .before .before .before .before .before .before .first-link-too-large .ensures) (omega arith) ∙ check-miss 3 _ _ _ (c .before .before .before .before .first-self-link .ensures) (omega arith) ∙ check-miss 4 _ _ _ (c .before .before .first-repeated-link .ensures) (omega arith))
+returns-4 c =
+    let at-first-repeated-link = c .before .before in
+    let at-first-self-link = at-first-repeated-link .before .before in
+    let at-first-link-too-large = at-first-self-link .before .before in
+    c .check-names .ensures
+    ∙ sym
+    (check-miss 2 _ _ _ (at-first-link-too-large .first-link-too-large .ensures) (omega arith)
+    ∙ check-miss 3 _ _ _ (at-first-self-link .first-self-link .ensures) (omega arith)
+    ∙ check-miss 4 _ _ _ (at-first-repeated-link .first-repeated-link .ensures) (omega arith))
 
 pub check-table-spec : {M : Type 1} → statement M
 check-table-spec =

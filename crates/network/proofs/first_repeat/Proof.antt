@@ -17,11 +17,24 @@ Inv-loop links head₀ next₀ m i₀ head next i = Searched (repeatedLink (tabl
 abbrev μ-loop : tie.MeasureT-loop
 μ-loop links head₀ next₀ m i₀ head next i = m - i
 
+-- the way back from a place to the one before it that is cited
+abbrev before-repeats-chained : tie.After-repeats-chained Inv-loop μ-loop → tie.In-loop Inv-loop μ-loop
+before-repeats-chained c = c .before .before .before
+
 loop-holds : tie.Need-loop-holds Inv-loop μ-loop
-loop-holds c = (searched-begin _ _, c .before .before .before .pre .0, refl, refl, c .before .before .before .pre .1)
+loop-holds c =
+    let start = c .before .before .before in
+    (searched-begin _ _, start .pre .0, refl, refl, start .pre .1)
 
 repeats-chained-requires : tie.Need-repeats-chained-requires Inv-loop μ-loop
-repeats-chained-requires c κs = (c .before .before .before .loop .inv .1, omega (arith, c .before .before .loop-test .taken, c .before .before .before .loop .inv .0 .whole), omega (arith, c .before .before .loop-test .taken, c .before .before .before .loop .inv .0 .whole, c .before .before .before .loop .inv .4))
+repeats-chained-requires c κs =
+    let at-loop-test = c .before .before in
+    let at-loop = at-loop-test .before in (
+      at-loop .loop .inv .1,
+      omega (arith, at-loop-test .loop-test .taken, at-loop .loop .inv .0 .whole),
+      omega
+          (arith, at-loop-test .loop-test .taken, at-loop .loop .inv .0 .whole, at-loop .loop .inv .4),
+    )
 
 same-length : tie.Need-same-length Inv-loop μ-loop
 same-length c = search needs
@@ -30,10 +43,21 @@ same-length-2 : tie.Need-same-length-2 Inv-loop μ-loop
 same-length-2 c = search needs
 
 returns : tie.Need-returns Inv-loop μ-loop
-returns c = searched-hit _ _ _ _ (c .before .before .before .before .before .loop .inv .0) (c .before .before .before .before .loop-test .taken) (sym (c .before .repeats-chained .ensures) ∙ c .if1 .taken)
+returns c =
+    let at-repeats-chained = c .before in
+    let at-loop-test = before-repeats-chained at-repeats-chained in
+    let at-loop = at-loop-test .before in
+    searched-hit _ _ _ _ (at-loop .loop .inv .0) (at-loop-test .loop-test .taken) (sym (at-repeats-chained .repeats-chained .ensures) ∙ c .if1 .taken)
 
 chain-link-requires : tie.Need-chain-link-requires Inv-loop μ-loop
-chain-link-requires c κs = (c .before .before .before .before .before .before .before .loop .inv .1, omega (arith, c .before .before .before .before .before .before .loop-test .taken, c .before .before .before .before .before .before .before .loop .inv .0 .whole), omega (arith, c .before .before .before .before .before .before .loop-test .taken, c .before .before .before .before .before .before .before .loop .inv .0 .whole, c .before .before .before .before .before .before .before .loop .inv .4))
+chain-link-requires c κs =
+    let at-loop-test = before-repeats-chained (c .before .before .before) in
+    let at-loop = at-loop-test .before in (
+      at-loop .loop .inv .1,
+      omega (arith, at-loop-test .loop-test .taken, at-loop .loop .inv .0 .whole),
+      omega
+          (arith, at-loop-test .loop-test .taken, at-loop .loop .inv .0 .whole, at-loop .loop .inv .4),
+    )
 
 add-i : tie.Need-add-i Inv-loop μ-loop
 add-i c = search needs
@@ -42,7 +66,19 @@ loop-less : tie.Need-loop-less Inv-loop μ-loop
 loop-less c = search needs
 
 loop-again : tie.Need-loop-again Inv-loop μ-loop
-loop-again c = (searched-miss _ _ _ _ (c .before .before .before .before .before .before .before .before .before .before .before .before .loop .inv .0) (c .before .before .before .before .before .before .before .before .before .before .before .loop-test .taken) (sym (c .before .before .before .before .before .before .before .before .repeats-chained .ensures) ∙ c .before .before .before .before .before .before .before .if1 .left), chained-next (c .before .before .before .before .before .before .before .before .before .before .before .before .loop .i) (c .before .before .before .before .chain-link .ensures), search needs, search needs, c .before .before .before .before .before .before .before .before .before .before .before .before .loop .inv .4)
+loop-again c =
+    let at-chain-link = c .before .before .before .before in
+    let at-if1 = at-chain-link .before .before .before in
+    let at-repeats-chained = at-if1 .before in
+    let at-loop-test = before-repeats-chained at-repeats-chained in
+    let at-loop = at-loop-test .before in (
+      searched-miss _ _ _ _ (at-loop .loop .inv .0) (at-loop-test .loop-test .taken)
+          (sym (at-repeats-chained .repeats-chained .ensures) ∙ at-if1 .if1 .left),
+      chained-next (at-loop .loop .i) (at-chain-link .chain-link .ensures),
+      search needs,
+      search needs,
+      at-loop .loop .inv .4,
+    )
 
 same-length-3 : tie.Need-same-length-3 Inv-loop μ-loop
 same-length-3 c = search needs

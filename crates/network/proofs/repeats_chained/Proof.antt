@@ -48,7 +48,15 @@ shared-slice-read-chain-joins-3 c = search needs
 
 chain-joins-requires : tie.Need-chain-joins-requires
 unfolding former latter
-chain-joins-requires c κs = let a = c .before .before .before .before .before .before .before .before .args in (chain-of (tableOf (a .links .now)) (a .i) (a .head .now) (a .next .now) (c .before .before .before .before .before .before .before .before .pre .0) _ (c .before .before .before .before .lower-end .ensures) (c .before .before .before .if1 .left) (c .before .before .before .before .before .before .before .before .pre .2), omega (arith, c .before .before .before .before .before .before .before .before .pre .1))
+chain-joins-requires c κs =
+    let at-if1 = c .before .before .before in
+    let at-lower-end = at-if1 .before in
+    let start = at-lower-end .before .before .before .before in
+    let a = start .args in (
+      chain-of (tableOf (a .links .now)) (a .i) (a .head .now) (a .next .now) (start .pre .0) _ (at-lower-end .lower-end .ensures) (at-if1 .if1 .left)
+          (start .pre .2),
+      omega (arith, start .pre .1),
+    )
 
 returns-2 : tie.Need-returns-2
 unfolding repeatedLink former latter

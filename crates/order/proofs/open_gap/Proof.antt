@@ -39,13 +39,26 @@ loop-less : tie.Need-loop-less Inv-loop μ-loop
 loop-less c = search needs
 
 loop-again : tie.Need-loop-again Inv-loop μ-loop
-loop-again c = (search needs, search needs, simp length-set (c .before .before .loop .inv .2), ap (λ (l : List ℕ). set l (c .before .before .loop .k - 1 + c .before .before .before .args .c) (getD l (c .before .before .loop .k - 1) 0)) (c .before .before .loop .inv .3) ∙ gap-more (c .before .before .before .args .order .now) (c .before .before .loop .k) (c .before .before .before .args .count) (c .before .before .before .args .c) (omega arith) (c .before .before .loop .inv .1) (c .before .before .before .pre .1))
+loop-again c =
+    let at-loop = c .before .before in
+    let start = at-loop .before in (
+      search needs,
+      search needs,
+      simp length-set (at-loop .loop .inv .2),
+      ap
+          (λ (l : List ℕ). set l (at-loop .loop .k - 1 + start .args .c) (getD l (at-loop .loop .k - 1) 0)) (at-loop .loop .inv .3)
+          ∙ gap-more (start .args .order .now) (at-loop .loop .k) (start .args .count) (start .args .c) (omega arith) (at-loop .loop .inv .1)
+          (start .pre .1),
+    )
 
 same-length : tie.Need-same-length Inv-loop μ-loop
 same-length c = c .before .loop .inv .2
 
 returns : tie.Need-returns Inv-loop μ-loop
-returns c = c .before .loop .inv .3 ∙ ap (λ (k : ℕ). gap (c .before .before .args .order .now) k (c .before .before .args .count) (c .before .before .args .c)) (omega arith)
+returns c =
+    let at-loop = c .before in
+    let start = at-loop .before in
+    at-loop .loop .inv .3 ∙ ap (λ (k : ℕ). gap (start .args .order .now) k (start .args .count) (start .args .c)) (omega arith)
 
 pub open-gap-spec : {M : Type 1} → statement M
 open-gap-spec =

@@ -5,11 +5,18 @@ use Rattle.order.proofs.Insertion.{upward-by}
 use Rattle.order.proofs.upward.Statement.{statement}
 use Rattle.order.proofs.upward.Tie as tie
 
+-- the way back from a place to the one before it that is cited
+abbrev before-least : tie.After-least → tie.Start
+before-least c = c .before .before .before
+
 least-requires : tie.Need-least-requires
 least-requires c κs = search needs
 
 slice-aggregate-list : tie.Need-slice-aggregate-list
-slice-aggregate-list c = omega (arith, c .before .least .ensures, length-take (c .before .least .result) (c .before .before .before .before .args .order .now))
+slice-aggregate-list c =
+    let at-least = c .before in
+    let start = before-least at-least in
+    omega (arith, at-least .least .ensures, length-take (at-least .least .result) (start .args .order .now))
 
 shared-slice-read-position-of : tie.Need-shared-slice-read-position-of
 shared-slice-read-position-of c = search needs
@@ -30,7 +37,12 @@ position-of-requires-2 : tie.Need-position-of-requires-2
 position-of-requires-2 c κs = search needs
 
 returns : tie.Need-returns
-returns c = upward-by (c .before .before .before .before .before .before .before .before .args .born) (c .before .before .before .before .before .before .before .before .args .order .now) (c .before .before .before .before .before .before .before .before .args .ear .now) (c .before .before .before .before .before .least .ensures) (c .before .before .position-of .ensures) (c .position-of2 .ensures)
+returns c =
+    let at-position-of = c .before .before in
+    let at-least = at-position-of .before .before .before in
+    let start = before-least at-least in
+    upward-by (start .args .born) (start .args .order .now) (start .args .ear .now) (at-least .least .ensures) (at-position-of .position-of .ensures)
+    (c .position-of2 .ensures)
 
 pub upward-spec : {M : Type 1} → statement M
 upward-spec =

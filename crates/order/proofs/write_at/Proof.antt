@@ -40,13 +40,25 @@ loop-less : tie.Need-loop-less Inv-loop μ-loop
 loop-less c = search needs
 
 loop-again : tie.Need-loop-again Inv-loop μ-loop
-loop-again c = (search needs, search needs, ap (λ (l : List ℕ). set l (c .before .before .before .args .at + c .before .before .loop .k) (getD (c .before .before .before .args .part .now) (c .before .before .loop .k) 0)) (c .before .before .loop .inv .2) ∙ paste-more _ _ _ _ _ refl (c .before .before .before .pre) (c .before .loop-test .taken))
+loop-again c =
+    let at-loop-test = c .before in
+    let at-loop = at-loop-test .before in
+    let start = at-loop .before in (
+      search needs,
+      search needs,
+      ap (λ (l : List ℕ). set l (start .args .at + at-loop .loop .k) (getD (start .args .part .now) (at-loop .loop .k) 0))
+          (at-loop .loop .inv .2)
+          ∙ paste-more _ _ _ _ _ refl (start .pre) (at-loop-test .loop-test .taken),
+    )
 
 same-length : tie.Need-same-length Inv-loop μ-loop
 same-length c = c .before .loop .inv .1
 
 returns : tie.Need-returns Inv-loop μ-loop
-returns c = c .before .loop .inv .2 ∙ paste-all (c .before .before .args .order .now) (c .before .before .args .at) (c .before .before .args .part .now) (c .before .loop .k) _ refl (omega arith)
+returns c =
+    let at-loop = c .before in
+    let start = at-loop .before in
+    at-loop .loop .inv .2 ∙ paste-all (start .args .order .now) (start .args .at) (start .args .part .now) (at-loop .loop .k) _ refl (omega arith)
 
 pub write-at-spec : {M : Type 1} → statement M
 write-at-spec =

@@ -46,13 +46,29 @@ loop-less : tie.Need-loop-less Inv-loop μ-loop
 loop-less c = search needs
 
 loop-again : tie.Need-loop-again Inv-loop μ-loop
-loop-again c = let l = c .before .before .before .args .part .now in (search needs, simp length-set (c .before .before .loop .inv .1), ap (λ (t : List ℕ). set t (c .before .before .before .args .at + c .before .before .loop .k) (getD l (length l - 1 - c .before .before .loop .k) 0)) (c .before .before .loop .inv .2) ∙ paste-more (c .before .before .before .args .order .now) (c .before .before .before .args .at) (reverse l) (c .before .before .loop .k) _ (reversed-at l _ (c .before .loop-test .taken)) (omega (arith, c .before .before .before .pre, length-reverse l)) (omega (arith, length-reverse l)))
+loop-again c =
+    let at-loop-test = c .before in
+    let at-loop = at-loop-test .before in
+    let start = at-loop .before in
+    let l = start .args .part .now in (
+      search needs,
+      simp length-set (at-loop .loop .inv .1),
+      ap
+          (λ (t : List ℕ). set t (start .args .at + at-loop .loop .k) (getD l (length l - 1 - at-loop .loop .k) 0)) (at-loop .loop .inv .2)
+          ∙ paste-more (start .args .order .now) (start .args .at) (reverse l) (at-loop .loop .k) _ (reversed-at l _ (at-loop-test .loop-test .taken))
+          (omega (arith, start .pre, length-reverse l)) (omega (arith, length-reverse l)),
+    )
 
 same-length : tie.Need-same-length Inv-loop μ-loop
 same-length c = c .before .loop .inv .1
 
 returns : tie.Need-returns Inv-loop μ-loop
-returns c = c .before .loop .inv .2 ∙ paste-all (c .before .before .args .order .now) (c .before .before .args .at) (reverse (c .before .before .args .part .now)) (c .before .loop .k) _ (length-reverse (c .before .before .args .part .now)) (omega arith)
+returns c =
+    let at-loop = c .before in
+    let start = at-loop .before in
+    at-loop .loop .inv .2
+    ∙ paste-all (start .args .order .now) (start .args .at) (reverse (start .args .part .now)) (at-loop .loop .k) _
+    (length-reverse (start .args .part .now)) (omega arith)
 
 pub write-reversed-spec : {M : Type 1} → statement M
 write-reversed-spec =

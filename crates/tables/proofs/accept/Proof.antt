@@ -36,7 +36,16 @@ same-length-5 c = search needs
 
 returns : tie.Need-returns
 unfolding afterEar
-returns c = let a = c .before .before .before .before .before .before .before .before .before .before .before .before .before .before .before .before .before .before .before .before .before .before .before .before .before .before .before .args in let n = c .before .before .before .before .before .before .before .before .before .before .set-new .ensures in let l = c .before .before .before .before .before .before .before .before .before .before .before .before .before .before .before .before .before .before .before .count-long .ensures in tables-alike (c .before .before .before .before .before .before .before .before .before .before .before .before .before .before .before .before .before .mark-ear .ensures) l (n .0 ∙ ap (λ (k : ℕ). birthsAfter k (newOf (eqb (a .born) 0) (a .ear .now)) (a .births .now)) l) (c .before .before .insert .ensures .0) (c .before .before .insert .ensures .1) (n .1) (n .2)
+returns c =
+    let at-insert = c .before .before in
+    let at-set-new = at-insert .before .before .before .before .before .before .before .before in
+    let at-mark-ear = at-set-new .before .before .before .before .before .before .before in
+    let at-count-long = at-mark-ear .before .before in
+    let a = at-count-long .before .before .before .before .before .before .before .before .args in
+    let n = at-set-new .set-new .ensures in
+    let l = at-count-long .count-long .ensures in
+    tables-alike (at-mark-ear .mark-ear .ensures) l (n .0 ∙ ap (λ (k : ℕ). birthsAfter k (newOf (eqb (a .born) 0) (a .ear .now)) (a .births .now)) l)
+    (at-insert .insert .ensures .0) (at-insert .insert .ensures .1) (n .1) (n .2)
 
 pub accept-spec : {M : Type 1} → statement M
 accept-spec =

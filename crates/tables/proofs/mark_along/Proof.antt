@@ -18,6 +18,10 @@ Inv-loop links ear used₀ k₀ used k = (k ≤ pred (length ear)) × (used ≡ 
 abbrev μ-loop : tie.MeasureT-loop
 μ-loop links ear used₀ k₀ used k = length ear - k
 
+-- the way back from a place to the one before it that is cited
+abbrev before-loop : tie.At-loop Inv-loop μ-loop → tie.Start Inv-loop μ-loop
+before-loop c = c .before .before .before .before
+
 -- src/lib.rt:40:5
 loop-holds : tie.Need-loop-holds Inv-loop μ-loop
 unfolding assigned
@@ -66,9 +70,16 @@ loop-less c = search needs
 -- src/lib.rt:40:5
 loop-again : tie.Need-loop-again Inv-loop μ-loop
 loop-again c =
-    let a = c .before .before .before .before .before .before .before .before .before .before .before .before .args in
-    let k = c .before .before .before .before .before .before .before .before .loop .k in
-    (omega (arith, c .before .before .before .before .before .before .before .loop-test .taken), assigned-more (a .used .now) _ _ k (c .before .before .before .before .before .before .before .before .loop .inv .1) (c .before .before .mark .ensures) (c .before .before .before .before .link-of .ensures ∙ ap (λ (j : ℕ). linkOf (tableOf (a .links .now)) (at (a .ear .now) k) (at (a .ear .now) j)) (add-one k)) refl)
+    let at-mark = c .before .before in
+    let at-link-of = at-mark .before .before in
+    let at-loop-test = at-link-of .before .before .before in
+    let at-loop = at-loop-test .before in
+    let a = before-loop at-loop .args in
+    let k = at-loop .loop .k in (
+      omega (arith, at-loop-test .loop-test .taken),
+      assigned-more (a .used .now) _ _ k (at-loop .loop .inv .1) (at-mark .mark .ensures)
+          (at-link-of .link-of .ensures ∙ ap (λ (j : ℕ). linkOf (tableOf (a .links .now)) (at (a .ear .now) k) (at (a .ear .now) j)) (add-one k)) refl,
+    )
 
 -- src/lib.rt:36:1
 same-length : tie.Need-same-length Inv-loop μ-loop
@@ -76,7 +87,12 @@ same-length c = ap length (c .before .loop .inv .1) ∙ assigned-length _ _ _ _
 
 -- src/lib.rt:36:1
 returns : tie.Need-returns Inv-loop μ-loop
-returns c = c .before .loop .inv .1 ∙ ap (assigned _ _ _) (let z : c .before .loop .k ≡ pred (length (c .before .before .before .before .before .args .ear .now)) = omega (arith, c .loop-test .left, c .before .loop .inv .0) in z)
+returns c =
+    let at-loop = c .before in
+    let start = before-loop at-loop in
+    at-loop .loop .inv .1
+    ∙ ap (assigned _ _ _)
+    (let z : at-loop .loop .k ≡ pred (length (start .args .ear .now)) = omega (arith, c .loop-test .left, at-loop .loop .inv .0) in z)
 
 pub mark-along-spec : {M : Type 1} → statement M
 mark-along-spec =

@@ -4,6 +4,10 @@ use borrow.Author.Needs.{needs}
 use Rattle.tables.proofs.mark_ear.Statement.{statement}
 use Rattle.tables.proofs.mark_ear.Tie as tie
 
+-- the way back from a place to the one before it that is cited
+abbrev before-mark-along : tie.After-mark-along → tie.Start
+before-mark-along c = c .before .before .before .before .before
+
 mark-along-requires : tie.Need-mark-along-requires
 mark-along-requires c κs = search needs
 
@@ -29,13 +33,23 @@ same-length : tie.Need-same-length
 same-length c = search needs
 
 returns : tie.Need-returns
-returns c = let a = c .before .before .before .before .before .before .before .before .before .before .before .before .before .before .before .args in used-first (tableOf (a .links .now)) (a .initial) (a .ear .now) (a .used .now) (c .before .before .before .before .before .before .before .before .before .before .mark-along .ensures) (c .before .before .before .before .before .before .before .if1 .taken) (c .before .before .before .before .link-of .ensures) (c .before .before .mark .ensures)
+returns c =
+    let at-mark = c .before .before in
+    let at-link-of = at-mark .before .before in
+    let at-if1 = at-link-of .before .before .before in
+    let at-mark-along = at-if1 .before .before .before in
+    let a = before-mark-along at-mark-along .args in
+    used-first (tableOf (a .links .now)) (a .initial) (a .ear .now) (a .used .now) (at-mark-along .mark-along .ensures) (at-if1 .if1 .taken)
+    (at-link-of .link-of .ensures) (at-mark .mark .ensures)
 
 same-length-2 : tie.Need-same-length-2
 same-length-2 c = search needs
 
 returns-2 : tie.Need-returns-2
-returns-2 c = let a = c .before .before .before .before .before .before .before .before .args in used-later (tableOf (a .links .now)) (a .initial) (a .ear .now) (a .used .now) (c .before .before .before .mark-along .ensures) (c .if1 .left)
+returns-2 c =
+    let at-mark-along = c .before .before .before in
+    let a = before-mark-along at-mark-along .args in
+    used-later (tableOf (a .links .now)) (a .initial) (a .ear .now) (a .used .now) (at-mark-along .mark-along .ensures) (c .if1 .left)
 
 pub mark-ear-spec : {M : Type 1} → statement M
 mark-ear-spec =

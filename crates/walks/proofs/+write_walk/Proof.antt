@@ -3,14 +3,14 @@ use mathlib.Core.Path.{_∙_}
 use native.Mathlib.Omega.{arith}
 use lib.ListN.{length, set, length-set, length-take, length-drop}
 use Rattle.mondschein.specs.Network.{at}
-use Rattle.walks.proofs.Steps.{steps-last, steps-next}
+use Rattle.walks.proofs.Visits.{visited-last, visited-next}
 use borrow.Author.Needs.{needs}
 use borrow.Fn.Kinds.{In}
 use borrow.Fn.PlainCycle.{Measures, is, falls, and}
 use borrow.Rule.Slice.PartMut.{same-len-mid}
 use Rattle.walks.proofs.write_walk.Reads as reads
 use Rattle.walks.proofs.write_walk.Kinds as kinds
-use Rattle.order.proofs.entry.Reads as entry-reads
+use Rattle.rows.proofs.entry.Reads as entry-reads
 use Rattle.walks.proofs.+write_walk.Lts-write_walk as lts
 use Rattle.walks.proofs.+write_walk.{statement}
 use Rattle.walks.proofs.+write_walk.Tie.{close}
@@ -34,7 +34,7 @@ module _ (t : ℕ) where
   same-length c = search needs
 
   returns : lts.Need-returns claims Pre reads.Post
-  returns c = let a = c .before .before .before .args in steps-last (at (a .row .now)) (a .v) (a .left) (a .out .now) (c .before .before .before .pre .1) (c .if1 .taken)
+  returns c = let a = c .before .before .before .args in visited-last (at (a .row .now)) (a .v) (a .left) (a .out .now) (c .before .before .before .pre .1) (c .if1 .taken)
 
   entry-requires : lts.Need-entry-requires claims Pre reads.Post
   entry-requires c κs = search needs
@@ -63,7 +63,7 @@ module _ (t : ℕ) where
   returns-2 : lts.Need-returns-2 claims Pre reads.Post
   returns-2 c =
       let a = c .before .before .before .before .before .before .before .before .args in
-      steps-next (at (a .row .now)) (a .v) (a .left) (a .out .now) _ (c .before .before .before .before .before .before .before .before .pre .1) (c .before .before .before .before .before .if1 .left)
+      visited-next (at (a .row .now)) (a .v) (a .left) (a .out .now) _ (c .before .before .before .before .before .before .before .before .pre .1) (c .before .before .before .before .before .if1 .left)
       (rw (c .before .before .before .before .entry .ensures) at (c .before .before .write-walk .ensures))
 
 pub +write-walk-spec : {M : Type 1} → statement M

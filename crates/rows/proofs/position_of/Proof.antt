@@ -7,8 +7,8 @@ use Rattle.mondschein.specs.Network.{at}
 use Rattle.mondschein.proofs.Search.{rest, rest-begin, rest-hit, rest-miss, rest-end}
 use lib.Dec.{eqb}
 use Rattle.mondschein.specs.Order.{position}
-use Rattle.order.proofs.position_of.Statement.{statement}
-use Rattle.order.proofs.position_of.Tie as tie
+use Rattle.rows.proofs.position_of.Statement.{statement}
+use Rattle.rows.proofs.position_of.Tie as tie
 
 abbrev Inv-loop : tie.InvT-loop
 Inv-loop list x k₀ k = (k ≤ length list) × (position list x ≡ rest (λ j. eqb (at list j) x) (length list) k)
