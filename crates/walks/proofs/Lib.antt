@@ -1,3 +1,3 @@
-pub mod Links
+pub mod Lengths
 pub mod Visits
 pub mod Written

@@ -34,7 +34,10 @@ module _ (t : ℕ) where
   same-length c = search needs
 
   returns : lts.Need-returns claims Pre reads.Post
-  returns c = let a = c .before .before .before .args in visited-last (at (a .row .now)) (a .v) (a .left) (a .out .now) (c .before .before .before .pre .1) (c .if1 .taken)
+  returns c =
+      let start = c .before .before .before in
+      let a = start .args in
+      visited-last (at (a .row .now)) (a .v) (a .left) (a .out .now) (start .pre .1) (c .if1 .taken)
 
   entry-requires : lts.Need-entry-requires claims Pre reads.Post
   entry-requires c κs = search needs
@@ -58,12 +61,14 @@ module _ (t : ℕ) where
   same-length-2 c =
       let a = c .before .before .before .before .before .before .before .before .args in
       let l = set (a .out .now) 0 (a .v) in
-      same-len-mid 1 (length l - 1) l (c .before .before .write-walk .last .1 .1 .1 .0) (c .before .before .write-walk .kept .1 .1 .1 .0) ∙ length-set (a .out .now) 0 (a .v)
+      let called = c .before .before .write-walk in
+      same-len-mid 1 (length l - 1) l (called .last .1 .1 .1 .0) (called .kept .1 .1 .1 .0) ∙ length-set (a .out .now) 0 (a .v)
 
   returns-2 : lts.Need-returns-2 claims Pre reads.Post
   returns-2 c =
-      let a = c .before .before .before .before .before .before .before .before .args in
-      visited-next (at (a .row .now)) (a .v) (a .left) (a .out .now) _ (c .before .before .before .before .before .before .before .before .pre .1) (c .before .before .before .before .before .if1 .left)
+      let start = c .before .before .before .before .before .before .before .before in
+      let a = start .args in
+      visited-next (at (a .row .now)) (a .v) (a .left) (a .out .now) _ (start .pre .1) (c .before .before .before .before .before .if1 .left)
       (rw (c .before .before .before .before .entry .ensures) at (c .before .before .write-walk .ensures))
 
 pub +write-walk-spec : {M : Type 1} → statement M

@@ -4,7 +4,7 @@ use lib.ListN.{length}
 use borrow.Author.Tests.{eq-eqb, ne-eqb}
 use Rattle.mondschein.specs.Network.{at}
 use Rattle.mondschein.specs.Order.{walkBy}
-use Rattle.walks.proofs.Links.{walk-begin, walk-at-root, walk-next, walk-cut}
+use Rattle.walks.proofs.Lengths.{walk-begin, walk-at-root, walk-next, walk-cut}
 use borrow.Author.Needs.{needs}
 use Rattle.walks.proofs.links_left.Statement.{statement}
 use Rattle.walks.proofs.links_left.Tie as tie
