@@ -14,52 +14,14 @@ use Rattle.dialogue.specs.declared.Request.{Request}
 use Rattle.dialogue.specs.declared.Request.the-variants.{Nothing}
 use Rattle.dialogue.specs.declared.Reader.{Reader as Code·Reader}
 use Rattle.dialogue.specs.declared.Ending.{Ending}
-use Rattle.dialogue.specs.declared.Held.{Held}
-use Rattle.dialogue.specs.Transcript.{Turn, Reader, unprinted, withLine, ended, fed, LineHeld, heldLine}
+use Rattle.transcript.specs.declared.Held.{Held}
+use Rattle.transcript.specs.Transcript.{Reader, unprinted, withLine, ended, fed, LineHeld, heldLine, heldIn}
 use Rattle.dialogue.specs.Dialogue.{Dialogue, turn}
-use Rattle.dialogue.specs.Answering.{requested, readerIn, served, Ends, Serves, heldIn, TakesLines}
-use Rattle.dialogue.proofs.Transcripts.{line-by-line}
-use Rattle.dialogue.proofs.Replying.{least-take}
-
--- what is known with more printed before
-abbrev preceded : {A : Type 0} → List ℕ → Reader A → Reader A
-preceded p r = record { state = r .state; number = r .number; line = r .line; output = p ++ r .output; stopped = r .stopped }
-
-module _ {A : Type 0} (turn : A → ℕ → List ℕ → Turn A) (p : List ℕ) where
-  ended-preceded : (r : Reader A) → ended turn (preceded p r) ≡ preceded p (ended turn r)
-  unfolding ended
-  ended-preceded r = go (r .stopped || ltb 65535 (r .number))
-    where
-      t : Turn A
-      t = turn (r .state) (r .number) (r .line)
-
-      next : List ℕ → Reader A
-      next output = record { state = t .after; number = suc (r .number); line = []; output = output; stopped = t .stops }
-
-      go : (b : Bool) → cond b (preceded p r) (next ((p ++ r .output) ++ t .printed)) ≡ preceded p (cond b r (next (r .output ++ t .printed)))
-      go true = refl
-      go false = ap next (append-assoc p (r .output) (t .printed))
-
-  fed-preceded : (r : Reader A) (b : ℕ) → fed turn (preceded p r) b ≡ preceded p (fed turn r b)
-  unfolding fed
-  fed-preceded r b = go (eqb b 10)
-    where
-      longer : Reader A
-      longer = withLine r (take 6145 (r .line ++ (b ∷ [])))
-
-      go : (c : Bool) → cond c (ended turn (preceded p r)) (preceded p longer) ≡ preceded p (cond c (ended turn r) longer)
-      go true = ended-preceded r
-      go false = refl
-
-  foldl-preceded : (block : List ℕ) (r : Reader A) → foldl (fed turn) (preceded p r) block ≡ preceded p (foldl (fed turn) r block)
-  foldl-preceded [] r = refl
-  foldl-preceded (b ∷ s) r = ap (λ (x : Reader A). foldl (fed turn) x s) (fed-preceded r b) ∙ foldl-preceded s (fed turn r b)
-
--- what was printed before is left out at any time
-unprinted-foldl : {A : Type 0} (turn : A → ℕ → List ℕ → Turn A) (r : Reader A) (block : List ℕ) → unprinted (foldl (fed turn) r block) ≡ unprinted (foldl (fed turn) (unprinted r) block)
-unprinted-foldl {A} turn r block =
-    ap (λ (l : List ℕ). unprinted (foldl (fed turn) (record { state = r .state; number = r .number; line = r .line; output = l; stopped = r .stopped }) block)) (sym (append-nil (r .output)))
-    ∙ ap unprinted (foldl-preceded turn (r .output) block (unprinted r))
+use Rattle.dialogue.specs.Answering.{requested, readerIn, served, Ends, Serves, TakesLines}
+use Rattle.transcript.proofs.Transcripts.{line-by-line}
+use Rattle.transcript.proofs.Printing.{unprinted-foldl}
+use Rattle.transcript.proofs.Holding.{held-all}
+use Rattle.transcript.proofs.Prefixes.{least-take}
 
 -- what a block leads to, but for what is printed
 abbrev left : Reader Dialogue → List ℕ → Reader Dialogue
@@ -75,18 +37,6 @@ module _ (start : Reader Dialogue) (block : List ℕ) (r : Code·Reader) (s : Se
 
   pub taking-lines : (x : Code·Reader) (s′ : Session) (links′ line′ : List ℕ) (next : ℕ) (output : List ℕ) → TakesLines r s links line block from x s′ links′ line′ next output → Taking start block x s′ links′ line′ next
   taking-lines x s′ links′ line′ next output t = at ∙ ap unprinted (t []) ∙ unprinted-foldl turn (readerIn x s′ links′ line′ output) (drop next block)
-
--- a line that does not end takes all that is left
-held-all : (block l : List ℕ) → heldLine l block .ends ≡ false → heldLine l block .rest ≡ []
-unfolding heldLine
-held-all [] l q = refl
-held-all (b ∷ s) l q = go (eqb b 10) (held-all s (take 6145 (l ++ (b ∷ [])))) q
-  where
-    go : (t : Bool) → (heldLine (take 6145 (l ++ (b ∷ []))) s .ends ≡ false → heldLine (take 6145 (l ++ (b ∷ []))) s .rest ≡ [])
-        → cond t (record { line = l; rest = s; ends = true }) (heldLine (take 6145 (l ++ (b ∷ []))) s) .ends ≡ false
-        → cond t (record { line = l; rest = s; ends = true }) (heldLine (take 6145 (l ++ (b ∷ []))) s) .rest ≡ []
-    go true more z = clash refl z
-    go false more z = more z
 
 -- no line is taken
 pub lines-begin : (r : Code·Reader) (s : Session) (links line block : List ℕ) (from : ℕ) → TakesLines r s links line block from r s links line from []

@@ -1,4 +1,4 @@
-pub mod Transcripts
+pub mod Threeways
 pub mod Replying
 pub mod Reading
 pub mod Blocks

@@ -16,22 +16,10 @@ use Rattle.dialogue.specs.declared.Request.the-variants.{Nothing}
 use Rattle.dialogue.specs.declared.Answered.{Answered}
 use Rattle.dialogue.specs.declared.Reader.{Reader as Code·Reader}
 use Rattle.dialogue.specs.declared.Ending.{Ending}
-use Rattle.dialogue.specs.Transcript.{Turn, Reader, ended, heldLine}
+use Rattle.transcript.specs.Transcript.{Turn, Reader, ended, heldLine}
 use Rattle.dialogue.specs.Dialogue.{Dialogue, turn}
 use Rattle.dialogue.specs.Answering.{dialogueIn, requested, Answers, readerIn, served, Ends}
-use Rattle.dialogue.proofs.Replying.{least-take}
-
-module _ (line : List ℕ) (held b : ℕ) (whole : length line ≡ 6145) where
-  pub hold-full : 6145 ≤ held → take held line ≡ take 6145 (take held line ++ (b ∷ []))
-  hold-full h =
-      take-all held line (omega arith)
-      ∙ sym (ap (λ (l : List ℕ). take 6145 (l ++ (b ∷ []))) (take-all held line (omega arith)) ∙ take-at line (b ∷ []) 6145 whole)
-
-  pub hold-more : held < 6145 → take (held + 1) (set line held b) ≡ take 6145 (take held line ++ (b ∷ []))
-  hold-more h =
-      ap (λ (k : ℕ). take k (set line held b)) (add-one held)
-      ∙ take-suc-set line held b (omega arith)
-      ∙ sym (take-all 6145 (take held line ++ (b ∷ [])) (omega (arith, length-append (take held line) (b ∷ []), length-take held line)))
+use Rattle.transcript.proofs.Prefixes.{least-take}
 
 -- what is known once line number k has led to a turn
 abbrev after : ℕ → List ℕ → Turn Dialogue → Reader Dialogue
@@ -58,18 +46,3 @@ module _ (r : Code·Reader) (links line : List ℕ) where
       ap (λ (k : ℕ). served (a .request) numbers (take (a .written) out) (record { state = dialogueIn (a .kept) s links′; number = k; line = []; output = printed; stopped = a .stops })) (add-one (r .number))
       ∙ ap (after (r .number) printed) (e s ∙ ap (turn (old .state) (r .number)) (least-take (r .held) line m))
       ∙ sym (ap (λ (b : Bool). cond b old (after (r .number) printed (turn (old .state) (r .number) (old .line)))) q)
-
--- a block that is held byte by byte
-module _ (l block : List ℕ) (i : ℕ) where
-  pub held-end : length block ≤ i → record { line = l; rest = drop i block; ends = false } ≡ heldLine l (drop i block)
-  unfolding heldLine
-  held-end h = rw (drop-of-length-le block {i = i} h)
-
-  module _ (h : i < length block) where
-    pub held-feed : at block i ≡ 10 → record { line = l; rest = drop (i + 1) block; ends = true } ≡ heldLine l (drop i block)
-    unfolding heldLine
-    held-feed q = rw (drop-cons block i 0 h, add-one i, eq-eqb (at block i) 10 q)
-
-    pub held-byte : at block i ≢ 10 → heldLine l (drop i block) ≡ heldLine (take 6145 (l ++ (at block i ∷ []))) (drop (i + 1) block)
-    unfolding heldLine
-    held-byte d = rw (drop-cons block i 0 h, add-one i, ne-eqb (at block i) 10 d)

@@ -16,7 +16,7 @@ use Rattle.lines.specs.Writing.{Form, net, link, opening, ear, closing, walk, c
 use Rattle.lines.specs.Reading.{reading}
 use Rattle.lines.specs.Replies.{Reply, opened, new, closed, walked, cleared, unread, reply}
 use Rattle.lines.specs.Replies.{refused as told}
-use Rattle.dialogue.specs.Transcript.{Turn, transcript}
+use Rattle.transcript.specs.Transcript.{Turn, transcript}
 
 -- the numbers of the last net line (0 where there is none), the links collected, two numbers each, and the session
 pub record Dialogue : Type 0 where

@@ -19,11 +19,10 @@ ghost use Rattle.walks.specs.Walks.{walkAnswer};
 ghost use Rattle.session.specs.Session.{emptySession, loadedBy, offeredBy, closedBy};
 ghost use Rattle.lines.specs.declared.Form.the-variants as Form·;
 ghost use Rattle.lines.specs.Replies.{opened, new, closed, walked, cleared, unread, reply};
-ghost use Rattle.dialogue.specs.Transcript.{heldLine};
 ghost use Rattle.dialogue.specs.Dialogue.{replyTo};
 ghost use Rattle.dialogue.specs.declared.Call.the-variants as Call·;
 ghost use Rattle.dialogue.specs.declared.Request.the-variants as Request·;
-ghost use Rattle.dialogue.specs.Answering.{Printed, freshKept, toldIn, Responds, Answers, Ends, repliedIn, repliedBy, Serves, ServesWalk, startReader, heldIn, TakesLines};
+ghost use Rattle.dialogue.specs.Answering.{Printed, freshKept, toldIn, Responds, Answers, Ends, repliedIn, repliedBy, Serves, ServesWalk, startReader, TakesLines};
 
 // What is collected: the numbers of the last net line, and the count of links.
 pub struct Kept {
@@ -73,16 +72,6 @@ struct Answered {
     stops: bool,
 }
 
-// The lower of two numbers.
-fn least(a: usize, b: usize) -> usize
-    ensures { λ r. ⌜ r ≡ min a b ⌝ }
-{
-    if a < b {
-        return a;
-    }
-    b
-}
-
 // Writes the reply to load.
 fn reply_to_load(answer: Load, out: &mut [u8]) -> usize
     requires { ⌜ 32 ≤ length (now out) ⌝ }
@@ -123,7 +112,7 @@ fn reply_to_walk(answer: Walk, switch: u16, tree: u16, route: &[u16], out: &mut 
 {
     match answer {
         Walk::Count(count) => {
-            let shown = least(count as usize, route.len());
+            let shown = transcript::least(count as usize, route.len());
             lines::write_walk(out, switch, tree, &route[..shown])
         }
         Walk::Refused(number, place) => lines::write_refused(out, number, place),
@@ -246,52 +235,6 @@ impl Reader {
     }
 }
 
-// Holds one more byte of a line, and gives the count of its bytes; 6,145 of a line are enough.
-fn hold(line: &mut [u8], held: usize, byte: u8) -> usize
-    requires { ⌜ length (now line) ≡ 6145 ⌝ }
-    ensures { λ r. ⌜ take r (now (line .exit)) ≡ take 6145 (take held (now (line .entry)) ++ (byte ∷ [])) ⌝ }
-{
-    if 6145 <= held {
-        return held;
-    }
-    line[held] = byte;
-    held + 1
-}
-
-// What a block leaves of a line: the count of its bytes that are held, the place after them in the block, and whether it ends there.
-struct Held {
-    held: usize,
-    next: usize,
-    ends: bool,
-}
-
-// Holds the bytes of a block from a place on, up to the next line feed.
-fn hold_line(line: &mut [u8], held: usize, block: &[u8], from: usize) -> Held
-    requires { ⌜ (length (now line) ≡ 6145) × (from ≤ length (now block)) ⌝ }
-    ensures { λ r. ⌜ heldIn r (now (line .exit)) (now (block .entry)) ≡ heldLine (take held (now (line .entry))) (drop from (now (block .entry))) ⌝ }
-    ensures { λ r. ⌜ (r .next ≤ length (now (block .entry))) × ((r .ends) ≡ true → from < r .next) ⌝ }
-{
-    let mut count = held;
-    let mut i = from;
-    while i < block.len() {
-        let byte = block[i];
-        if byte == b'\n' {
-            return Held {
-                held: count,
-                next: i + 1,
-                ends: true,
-            };
-        }
-        count = hold(line, count, byte);
-        i += 1;
-    }
-    Held {
-        held: count,
-        next: i,
-        ends: false,
-    }
-}
-
 // What is known after a line, and what the line asks of the session.
 struct Ending {
     reader: Reader,
@@ -325,7 +268,7 @@ fn end_line(
     if 65535 < r.number {
         return quiet(r);
     }
-    let held = least(r.held, line.len());
+    let held = transcript::least(r.held, line.len());
     let d = r.kept;
     let answered = answer(d, r.number as u16, &line[..held], numbers, links, out);
     let kept = answered.kept;
@@ -362,7 +305,7 @@ fn open(r: Reader, s: Session, links: &[u16], out: &mut [u8]) -> Called
     ensures { λ c. ⌜ repliedIn (c .reader) (c .session) (now (out .exit)) ≡ (let d = r .kept in let o = loadedBy s (networkOf (d .n) (take (2 * d .count) (now (links .entry))) (d .root) (d .first) (d .last)) in repliedBy r d (o .after) (replyTo (λ vs. opened (at vs 0) (at vs 1)) (o .answer))) ⌝ }
 {
     let d = r.kept;
-    let numbers = least(2 * (d.count as usize), links.len());
+    let numbers = transcript::least(2 * (d.count as usize), links.len());
     let loading = session::load(s, d.n, &links[..numbers], d.root, d.first, d.last);
     let answer = loading.answer;
     let session = loading.session;
@@ -376,7 +319,7 @@ fn offer(r: Reader, s: Session, count: u16, numbers: &[u16], out: &mut [u8]) -> 
     requires { ⌜ 8192 ≤ length (now out) ⌝ }
     ensures { λ c. ⌜ repliedIn (c .reader) (c .session) (now (out .exit)) ≡ (let o = offeredBy s (take count (now (numbers .entry))) in repliedBy r (r .kept) (o .after) (replyTo (λ vs. new (at vs 0)) (o .answer))) ⌝ }
 {
-    let shown = least(count as usize, numbers.len());
+    let shown = transcript::least(count as usize, numbers.len());
     let offering = session::ear(s, &numbers[..shown]);
     let answer = offering.answer;
     let session = offering.session;
@@ -447,7 +390,7 @@ fn serve_walk(r: Reader, s: Session, switch: u16, tree: u16, out: &mut [u8]) -> 
 pub fn reply(out: &[u8], written: usize) -> &[u8]
     ensures { λ r. ⌜ now r ≡ take written (now (out .entry)) ⌝ }
 {
-    let count = least(written, out.len());
+    let count = transcript::least(written, out.len());
     &out[..count]
 }
 
@@ -483,7 +426,7 @@ pub fn take_lines(
         if out.len() - written < 8192 {
             break;
         }
-        let h = hold_line(line, reader.held, block, next);
+        let h = transcript::hold_line(line, reader.held, block, next);
         reader.held = h.held;
         next = h.next;
         if !h.ends {
@@ -503,7 +446,7 @@ pub fn take_lines(
                 session = called.session;
             }
         }
-        written += least(reader.written, out.len() - written);
+        written += transcript::least(reader.written, out.len() - written);
     }
     Taken {
         reader,

@@ -1,6 +1,6 @@
 use borrow.Author.Tests.{lt-ltb, le-ltb}
 use Rattle.mondschein.proofs.Logic.{or-left, true-or, false-or}
-use Rattle.dialogue.proofs.Replying.{least-length}
+use Rattle.transcript.proofs.Prefixes.{least-length}
 use Rattle.dialogue.proofs.Reading.{end-quiet, end-turn}
 use borrow.Author.Needs.{needs}
 use Rattle.dialogue.proofs.end_line.Statement.{statement}

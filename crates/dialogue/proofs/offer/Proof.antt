@@ -3,7 +3,8 @@ use Rattle.mondschein.specs.Network.{at}
 use Rattle.judge.specs.Ear.{earAnswer}
 use Rattle.session.specs.Session.{offeredBy}
 use Rattle.lines.specs.Replies.{new}
-use Rattle.dialogue.proofs.Replying.{replied-call, least-length, least-take}
+use Rattle.transcript.proofs.Prefixes.{least-length, least-take}
+use Rattle.dialogue.proofs.Replying.{replied-call}
 use borrow.Author.Needs.{needs}
 use Rattle.dialogue.proofs.offer.Statement.{statement}
 use Rattle.dialogue.proofs.offer.Tie as tie

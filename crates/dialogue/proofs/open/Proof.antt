@@ -5,7 +5,8 @@ use Rattle.mondschein.specs.Network.{at}
 use Rattle.network.specs.Load.{networkOf, loadAnswer}
 use Rattle.session.specs.Session.{loadedBy}
 use Rattle.lines.specs.Replies.{opened}
-use Rattle.dialogue.proofs.Replying.{replied-call, least-length, least-take}
+use Rattle.transcript.proofs.Prefixes.{least-length, least-take}
+use Rattle.dialogue.proofs.Replying.{replied-call}
 use borrow.Author.Needs.{needs}
 use Rattle.dialogue.proofs.open.Statement.{statement}
 use Rattle.dialogue.proofs.open.Tie as tie

@@ -7,7 +7,8 @@ use Rattle.walks.specs.declared.Walk.{Walk}
 use Rattle.walks.specs.Walks.{walkAnswer}
 use Rattle.lines.specs.Replies.{walked}
 use Rattle.dialogue.specs.Dialogue.{replyTo}
-use Rattle.dialogue.proofs.Replying.{printed-as, least-length, least-take}
+use Rattle.transcript.proofs.Prefixes.{least-length, least-take}
+use Rattle.dialogue.proofs.Replying.{printed-as}
 use borrow.Author.Needs.{needs}
 use Rattle.dialogue.proofs.reply_to_walk.Statement.{statement}
 use Rattle.dialogue.proofs.reply_to_walk.Tie as tie

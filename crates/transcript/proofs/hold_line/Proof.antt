@@ -3,11 +3,11 @@ use mathlib.Core.Path.{_≡_, refl, sym, ap, _∙_}
 use mathlib.Core.List.{List}
 use native.Mathlib.Omega.{arith}
 use lib.ListN.{length, take, drop}
-use Rattle.dialogue.specs.Transcript.{heldLine}
-use Rattle.dialogue.proofs.Reading.{held-end, held-feed, held-byte}
+use Rattle.transcript.specs.Transcript.{heldLine}
+use Rattle.transcript.proofs.Holding.{held-end, held-feed, held-byte}
 use borrow.Author.Needs.{needs}
-use Rattle.dialogue.proofs.hold_line.Statement.{statement}
-use Rattle.dialogue.proofs.hold_line.Tie as tie
+use Rattle.transcript.proofs.hold_line.Statement.{statement}
+use Rattle.transcript.proofs.hold_line.Tie as tie
 
 abbrev Inv-loop : tie.InvT-loop
 Inv-loop line₀ held block from count₀ i₀ line count i = (from ≤ i) × (i ≤ length block) × (length line ≡ 6145) × (length line₀ ≡ 6145) × (heldLine (take held line₀) (drop from block) ≡ heldLine (take count line) (drop i block))

@@ -3,18 +3,14 @@
 use mathlib.Core.Path.{_≡_, refl, sym, ap, _∙_}
 use mathlib.Core.Logic.{⊎-elim}
 use mathlib.Core.Bool.{Bool, true, false, _||_, cond}
-use mathlib.Core.Option.{none}
 use mathlib.Core.List.{List, [], _∷_, _++_, foldl, append-assoc, append-nil}
 use Prim.Native.Nat.{ℕ, zero, suc, _-_, _≤_, _<_}
 use native.Mathlib.Omega.{arith}
 use lib.Dec.{eqb, ltb}
-use lib.ListN.{length, take, length-take}
-use lib.Seq.{take-all}
+use lib.ListN.{take}
 use borrow.Author.Tests.{lt-ltb, le-ltb}
 use Rattle.mondschein.proofs.Logic.{less?, or-left, true-or, false-or}
-use Rattle.lines.specs.Reading.{anyForm, reading}
-use Rattle.dialogue.specs.Transcript.{begun, linesOf, blank, Turn, printedFrom, transcript, Reader, withLine, started, ended, fed, finished, PrintsTranscript, LineHeld, heldLine, LineByLine}
-use Rattle.dialogue.specs.Dialogue.{Dialogue, respond, turn}
+use Rattle.transcript.specs.Transcript.{begun, linesOf, blank, Turn, printedFrom, transcript, Reader, withLine, started, ended, fed, finished, PrintsTranscript, LineHeld, heldLine, LineByLine}
 
 -- the lines of an input of which the first has begun with the bytes h
 unfoldable linesFrom : List ℕ → List ℕ → List (List ℕ)
@@ -61,6 +57,11 @@ cut-more (suc n) (y ∷ h) x = ap (λ (l : List ℕ). y ∷ l) (cut-more n h x)
 cut-blank : (n : ℕ) (h : List ℕ) → blank (take (suc n) h) ≡ blank h
 cut-blank n [] = refl
 cut-blank n (y ∷ h) = refl
+
+-- 65,535 lines of an input are read
+transcript-lines : {A : Type 0} (turn : A → ℕ → List ℕ → Turn A) (a : A) (input : List ℕ) → transcript turn a input ≡ printedFrom turn a 1 (take 65535 (linesOf input))
+unfolding transcript
+transcript-lines turn a input = refl
 
 module _ {A : Type 0} (turn : A → ℕ → List ℕ → Turn A) where
   -- a reader that has one more byte of its line
@@ -172,10 +173,11 @@ module _ {A : Type 0} (turn : A → ℕ → List ℕ → Turn A) where
         go false p z = z
 
     pub prints-transcript : PrintsTranscript turn
-    unfolding transcript rest
+    unfolding rest
     prints-transcript a input =
         prints input (started turn a) [] refl refl
         ∙ ap (λ (ls : List (List ℕ)). printedFrom turn a 1 (take 65535 ls)) (lines-begin input)
+        ∙ sym (transcript-lines turn a input)
 
 -- a block, line by line
 pub line-by-line : {A : Type 0} (turn : A → ℕ → List ℕ → Turn A) → LineByLine turn
@@ -190,18 +192,3 @@ line-by-line {A} turn r (b ∷ s) = go (eqb b 10) (line-by-line turn (longer tur
         → foldl (fed turn) (cond t (ended turn r) (longer turn r b)) s ≡ after (cond t (record { line = r .line; rest = s; ends = true }) (heldLine (take 6145 (r .line ++ (b ∷ []))) s))
     go true p = refl
     go false p = p
-
--- the dialogue of threeways
-cut-turn : (d : Dialogue) (k : ℕ) (l : List ℕ) → turn d k (take 6145 l) ≡ turn d k l
-unfolding turn reading
-cut-turn d k l =
-    ⊎-elim
-    (λ (g : 6144 < length l).
-    ap (respond d k)
-    (ap (λ (b : Bool). cond b none (anyForm (take 6145 l))) (lt-ltb 6144 (length (take 6145 l)) (omega (arith, length-take 6145 l)))
-    ∙ sym (ap (λ (b : Bool). cond b none (anyForm l)) (lt-ltb 6144 (length l) g))))
-    (λ (g : length l ≤ 6144). ap (λ (s : List ℕ). turn d k s) (take-all 6145 l (omega arith)))
-    (less? 6144 (length l))
-
-pub prints-threeways : PrintsTranscript turn
-prints-threeways = prints-transcript turn cut-turn

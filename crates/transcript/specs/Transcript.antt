@@ -5,7 +5,8 @@ use mathlib.Core.Bool.{Bool, true, false, _||_, cond}
 use mathlib.Core.List.{List, [], _∷_, _++_, foldl}
 use Prim.Native.Nat.{ℕ, suc}
 use lib.Dec.{eqb, ltb}
-use lib.ListN.{take}
+use lib.ListN.{take, drop}
+use Rattle.transcript.specs.declared.Held.{Held}
 
 -- one more byte at the beginning of the first line
 abbrev pub begun : ℕ → List (List ℕ) → List (List ℕ)
@@ -94,3 +95,7 @@ heldLine l (b ∷ s) = cond (eqb b 10) (record { line = l; rest = s; ends = true
 abbrev pub LineByLine : {A : Type 0} → (A → ℕ → List ℕ → Turn A) → Type 0
 LineByLine {A} turn = (r : Reader A) (block : List ℕ) → foldl (fed turn) r block
     ≡ (let h = heldLine (r .line) block in cond (h .ends) (foldl (fed turn) (ended turn (withLine r (h .line))) (h .rest)) (withLine r (h .line)))
+
+-- what a block leaves of a line, with the line and the block in slices
+abbrev pub heldIn : Held → List ℕ → List ℕ → LineHeld
+heldIn r line block = record { line = take (r .held) line; rest = drop (r .next) block; ends = r .ends }
