@@ -1,23 +1,23 @@
 -- Laws of a block that is taken line by line, its replies one after another in a slice: where it stands between two lines, and where it
 -- ends. What was printed before changes nothing but itself.
-use mathlib.Core.Path.{_≡_, refl, sym, ap, ap₂, _∙_}
-use mathlib.Core.Bool.{Bool, true, false, _||_, cond}
-use mathlib.Core.List.{List, [], _∷_, _++_, foldl, append-assoc, append-nil}
-use Prim.Native.Nat.{ℕ, suc, min, _+_, _-_, _≤_}
+use mathlib.Core.Path.{_≡_, sym, ap, ap₂, _∙_}
+use mathlib.Core.Bool.{Bool, true, false, cond}
+use mathlib.Core.List.{List, [], _++_, foldl, append-assoc, append-nil}
+use Prim.Native.Nat.{ℕ, min, _+_, _-_, _≤_}
 use native.Mathlib.Omega.{arith}
-use lib.Dec.{eqb, ltb}
 use lib.ListN.{length, take, drop, drop-of-length-le, length-take, length-drop, length-append}
 use lib.Seq.{take-append-add, take-at}
-use Rattle.mondschein.proofs.Logic.{clash}
 use Rattle.session.specs.declared.Session.{Session}
-use Rattle.dialogue.specs.declared.Request.{Request}
-use Rattle.dialogue.specs.declared.Request.the-variants.{Nothing}
-use Rattle.dialogue.specs.declared.Reader.{Reader as Code·Reader}
-use Rattle.dialogue.specs.declared.Ending.{Ending}
+use Rattle.collect.specs.declared.Request.{Request}
+use Rattle.collect.specs.declared.Request.the-variants.{Nothing}
+use Rattle.collect.specs.declared.Reader.{Reader as Code·Reader}
+use Rattle.collect.specs.declared.Ending.{Ending}
 use Rattle.transcript.specs.declared.Held.{Held}
 use Rattle.transcript.specs.Transcript.{Reader, unprinted, withLine, ended, fed, LineHeld, heldLine, heldIn}
-use Rattle.dialogue.specs.Dialogue.{Dialogue, turn}
-use Rattle.dialogue.specs.Answering.{requested, readerIn, served, Ends, Serves, TakesLines}
+use Rattle.collect.specs.Dialogue.{Dialogue, turn}
+use Rattle.collect.specs.Answering.{requested, readerIn, served, Ends}
+use Rattle.serve.specs.Serving.{Serves}
+use Rattle.dialogue.specs.Taking.{TakesLines}
 use Rattle.transcript.proofs.Transcripts.{line-by-line}
 use Rattle.transcript.proofs.Printing.{unprinted-foldl}
 use Rattle.transcript.proofs.Holding.{held-all}

@@ -1,4 +1,1 @@
-pub mod Threeways
-pub mod Replying
-pub mod Reading
 pub mod Blocks

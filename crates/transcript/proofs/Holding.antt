@@ -13,7 +13,7 @@ use lib.Seq.{drop-cons, take-all, take-at, take-suc-set}
 use borrow.Author.Tests.{eq-eqb, ne-eqb}
 use Rattle.mondschein.specs.Network.{at}
 use Rattle.mondschein.proofs.Logic.{clash}
-use Rattle.transcript.specs.Transcript.{LineHeld, heldLine}
+use Rattle.transcript.specs.Transcript.{heldLine}
 
 module _ (line : List ℕ) (held b : ℕ) (whole : length line ≡ 6145) where
   pub hold-full : 6145 ≤ held → take held line ≡ take 6145 (take held line ++ (b ∷ []))

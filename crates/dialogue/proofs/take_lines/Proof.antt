@@ -8,7 +8,7 @@ use Prim.Native.Nat.{_≤_, _-_}
 use native.Mathlib.Omega.{arith}
 use lib.ListN.{length, take}
 use borrow.Author.Needs.{needs}
-use Rattle.dialogue.specs.Answering.{TakesLines}
+use Rattle.dialogue.specs.Taking.{TakesLines}
 use Rattle.dialogue.proofs.take_lines.Statement.{statement}
 use Rattle.dialogue.proofs.take_lines.Tie as tie
 

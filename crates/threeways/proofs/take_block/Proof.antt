@@ -3,7 +3,7 @@ use mathlib.Core.Path.{_≡_, _∙_}
 use mathlib.Core.List.{[]}
 use native.Mathlib.Omega.{arith}
 use lib.ListN.{length}
-use Rattle.dialogue.specs.Answering.{readerIn}
+use Rattle.collect.specs.Answering.{readerIn}
 use Rattle.dialogue.proofs.Blocks.{Taking, taking-end, taking-lines}
 use borrow.Author.Needs.{needs}
 use Rattle.threeways.proofs.take_block.Statement.{statement}
