@@ -15,13 +15,13 @@ use Rattle.session.specs.declared.Session.{Session}
 use Rattle.lines.specs.Writing.{Form, net, link, opening, ear, closing, walk, clearing}
 use Rattle.lines.specs.Reading.{reading}
 use Rattle.lines.specs.declared.Form.the-variants.{Link}
-use Rattle.lines.specs.Line.{told, held}
-use Rattle.lines.specs.Replies.{unread, reply}
+use Rattle.lines.specs.Line.{coded, held}
+use Rattle.replies.specs.Replies.{unread, reply}
 use Rattle.collect.specs.declared.Kept.{Kept}
 use Rattle.collect.specs.declared.Request.the-variants.{Nothing}
 use Rattle.collect.specs.declared.Answered.{Answered}
 use Rattle.collect.specs.Dialogue.{Dialogue, withLinks, silent, unreadAt, respond, turn}
-use Rattle.collect.specs.Answering.{Printed, dialogueIn, requested, toldIn, turnOf, respondTo, Responds}
+use Rattle.collect.specs.Answering.{Printed, dialogueIn, requested, effectIn, turnOf, respondTo, Responds}
 
 -- what was written is read back by its count
 pub printed-back : (bytes held holds : List ℕ) (r : ℕ) → Printed bytes held r holds → take r holds ≡ bytes
@@ -35,7 +35,7 @@ module _ (d : Kept) (links : List ℕ) (k a b : ℕ) (whole : length links ≡ 8
   counted s full = ap (λ (t : Bool). cond t (silent (withLinks (dialogueIn d s links) (take (2 * d .count) links ++ (a ∷ b ∷ [])))) (unreadAt (dialogueIn d s links) k))
 
   pub link-full : (out : List ℕ) (r : Answered) → 4096 ≤ d .count
-      → toldIn r out ≡ record { kept = d; request = Nothing; printed = reply (unread k); stops = true }
+      → effectIn r out ≡ record { kept = d; request = Nothing; printed = reply (unread k); stops = true }
       → Responds d links k (Link a b) r links out
   unfolding respondTo requested
   link-full out r h e s numbers =
@@ -56,16 +56,16 @@ module _ (d : Kept) (links : List ℕ) (k a b : ℕ) (whole : length links ≡ 8
       → Responds d links k (Link a b) r (set (set links (2 * d .count) a) (2 * d .count + 1) b) out
   unfolding respondTo requested
   link-more out r h e s numbers =
-      ap (λ (x : Answered). turnOf s k numbers (set (set links (2 * d .count) a) (2 * d .count + 1) b) (toldIn x out)) e
+      ap (λ (x : Answered). turnOf s k numbers (set (set links (2 * d .count) a) (2 * d .count + 1) b) (effectIn x out)) e
       ∙ ap (λ (l : List ℕ). silent (withLinks (dialogueIn d s links) l)) (pair-taken h)
       ∙ sym (counted s true (lt-ltb (length (take (2 * d .count) links)) 8192 (omega (arith, length-take (2 * d .count) links))))
 
 -- the form that was read, and an ear's numbers in a slice, lead to what the line leads to
-pub told-turn : (d : Dialogue) (k : ℕ) (s numbers : List ℕ) → respondTo d k (told (reading s)) (held (reading s) numbers) ≡ turn d k s
+pub coded-turn : (d : Dialogue) (k : ℕ) (s numbers : List ℕ) → respondTo d k (coded (reading s)) (held (reading s) numbers) ≡ turn d k s
 unfolding turn respondTo
-told-turn d k s numbers = go (reading s)
+coded-turn d k s numbers = go (reading s)
   where
-    go : (f : Option Form) → respondTo d k (told f) (held f numbers) ≡ respond d k f
+    go : (f : Option Form) → respondTo d k (coded f) (held f numbers) ≡ respond d k f
     go none = refl
     go (some (net n root first last)) = refl
     go (some (link a b)) = refl

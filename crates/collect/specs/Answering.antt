@@ -48,17 +48,17 @@ requested (Walk switch tree) numbers k t = respond (t .after) k (some (walk swit
 requested (Call c) numbers k t = respond (t .after) k (some (formOf c numbers))
 
 -- what a line leads to, with its reply in a slice
-pub record Told : Type 0 where
+pub record Effect : Type 0 where
   pub kept : Kept
   pub request : Request
   pub printed : List ℕ
   pub stops : Bool
 
-abbrev pub toldIn : Answered → List ℕ → Told
-toldIn r out = record { kept = r .kept; request = r .request; printed = take (r .written) out; stops = r .stops }
+abbrev pub effectIn : Answered → List ℕ → Effect
+effectIn r out = record { kept = r .kept; request = r .request; printed = take (r .written) out; stops = r .stops }
 
 -- the same as a turn of the dialogue, of line number k with a session, and with the links and the numbers of an ear in slices
-abbrev pub turnOf : Session → ℕ → List ℕ → List ℕ → Told → Turn Dialogue
+abbrev pub turnOf : Session → ℕ → List ℕ → List ℕ → Effect → Turn Dialogue
 turnOf s k numbers links t = requested (t .request) numbers k (record { after = dialogueIn (t .kept) s links; printed = t .printed; stops = t .stops })
 
 -- what a form that was read leads to, the numbers of an ear at the start of a slice
@@ -74,11 +74,11 @@ respondTo d k Code.Clear numbers = respond d k (some clearing)
 
 -- line number k leads to what its form says, whatever the session
 abbrev pub Responds : Kept → List ℕ → ℕ → Code·Form → Answered → List ℕ → List ℕ → Type 0
-Responds d links k form r links′ out = (s : Session) (numbers : List ℕ) → turnOf s k numbers links′ (toldIn r out) ≡ respondTo (dialogueIn d s links) k form numbers
+Responds d links k form r links′ out = (s : Session) (numbers : List ℕ) → turnOf s k numbers links′ (effectIn r out) ≡ respondTo (dialogueIn d s links) k form numbers
 
 -- line number k leads to what its bytes say, whatever the session
 abbrev pub Answers : Kept → List ℕ → ℕ → List ℕ → Answered → List ℕ → List ℕ → List ℕ → Type 0
-Answers d links k bytes r numbers links′ out = (s : Session) → turnOf s k numbers links′ (toldIn r out) ≡ turn (dialogueIn d s links) k bytes
+Answers d links k bytes r numbers links′ out = (s : Session) → turnOf s k numbers links′ (effectIn r out) ≡ turn (dialogueIn d s links) k bytes
 
 -- what is known between two bytes, with a session, and the links, the bytes of the line and what was printed in lists
 abbrev pub readerIn : Code·Reader → Session → List ℕ → List ℕ → List ℕ → Reader Dialogue

@@ -3,19 +3,19 @@
 use mathlib.Core.Bool.{true, false, cond}
 use mathlib.Core.List.{List, [], _∷_, _++_}
 use mathlib.Core.Option.{Option, none, some}
-use Prim.Native.Nat.{ℕ}
+use Prim.Native.Nat.{ℕ, _*_}
 use lib.Dec.{ltb}
 use lib.ListN.{length, take, replicate}
 use Rattle.mondschein.specs.Network.{at}
-use Rattle.mondschein.specs.Judge.{Answer, given, refused}
+use Rattle.mondschein.specs.Judge.{Answer, given, refused, limits}
 use Rattle.network.specs.Load.{networkOf}
 use Rattle.session.specs.declared.Session.{Session}
 use Rattle.session.specs.Session.{emptySession, loadedBy, offeredBy, closedBy}
 use Rattle.session.specs.Program.{walkedBy}
 use Rattle.lines.specs.Writing.{Form, net, link, opening, ear, closing, walk, clearing}
 use Rattle.lines.specs.Reading.{reading}
-use Rattle.lines.specs.Replies.{Reply, opened, new, closed, walked, cleared, unread, reply}
-use Rattle.lines.specs.Replies.{refused as told}
+use Rattle.replies.specs.Replies.{Reply, opened, new, closed, walked, cleared, unread, reply}
+use Rattle.replies.specs.Replies as Replies
 use Rattle.transcript.specs.Transcript.{Turn, transcript}
 
 -- the numbers of the last net line (0 where there is none), the links collected, two numbers each, and the session
@@ -52,13 +52,13 @@ unreadAt d k = record { after = d; printed = reply (unread k); stops = true }
 -- the reply to the values that a call gave, or its refusal
 unfoldable pub replyTo : (List ℕ → Reply) → Answer → Reply
 replyTo f (given values) = f values
-replyTo f (refused num place) = told num place
+replyTo f (refused num place) = Replies.refused num place
 
 -- what line number k does, by the form that it is read as
 unfoldable pub respond : Dialogue → ℕ → Option Form → Turn Dialogue
 respond d k none = unreadAt d k
 respond d k (some (net n root first last)) = silent (record { n = n; root = root; first = first; last = last; links = d .links; session = d .session })
-respond d k (some (link a b)) = cond (ltb (length (d .links)) 8192) (silent (withLinks d (d .links ++ (a ∷ b ∷ [])))) (unreadAt d k)
+respond d k (some (link a b)) = cond (ltb (length (d .links)) (2 * limits .maxLinks)) (silent (withLinks d (d .links ++ (a ∷ b ∷ [])))) (unreadAt d k)
 respond d k (some opening) =
     let o = loadedBy (d .session) (networkOf (d .n) (d .links) (d .root) (d .first) (d .last)) in
     answered (withSession d (o .after)) (replyTo (λ vs. opened (at vs 0) (at vs 1)) (o .answer))

@@ -1,14 +1,15 @@
 // A line of the dialogue without the session: what it does to the network that is collected, what it asks of the session, and else its
 // reply. The collected links stand at the start of a slice, two numbers each; a reply is written at the start of another.
 use lines::Form;
+use session::Session;
 ghost use mathlib.Core.Path.{_≡_};
 ghost use mathlib.Core.Bool.{true, false};
 ghost use Prim.Native.Nat.{_≤_};
 ghost use lib.ListN.{length};
 ghost use Rattle.lines.specs.declared.Form.the-variants as Form·;
-ghost use Rattle.lines.specs.Replies.{unread, reply};
+ghost use Rattle.replies.specs.Replies.{unread, reply};
 ghost use Rattle.collect.specs.declared.Request.the-variants as Request·;
-ghost use Rattle.collect.specs.Answering.{freshKept, toldIn, Responds, Answers, Ends, startReader};
+ghost use Rattle.collect.specs.Answering.{freshKept, effectIn, Responds, Answers, Ends, startReader};
 
 // What is collected: the numbers of the last net line, and the count of links.
 pub struct Kept {
@@ -61,9 +62,9 @@ struct Answered {
 // A line that cannot be read: no more is read.
 fn unread(d: Kept, number: u16, out: &mut [u8]) -> Answered
     requires { ⌜ 8192 ≤ length (now out) ⌝ }
-    ensures { λ r. ⌜ toldIn r (now (out .exit)) ≡ record { kept = d; request = Request·.Nothing; printed = reply (unread number); stops = true } ⌝ }
+    ensures { λ r. ⌜ effectIn r (now (out .exit)) ≡ record { kept = d; request = Request·.Nothing; printed = reply (unread number); stops = true } ⌝ }
 {
-    let written = lines::write_unread(out, number);
+    let written = replies::write_unread(out, number);
     let request = Request::Nothing;
     Answered {
         kept: d,
@@ -103,7 +104,7 @@ fn collect_link(d: Kept, number: u16, a: u16, b: u16, links: &mut [u16], out: &m
     ensures { λ r. ⌜ Responds d (now (links .entry)) number (Form·.Link a b) r (now (links .exit)) (now (out .exit)) ⌝ }
 {
     let count = d.count;
-    if 4096 <= count {
+    if Session::MAX_LINKS <= count {
         return unread(d, number, out);
     }
     let i = 2 * (count as usize);

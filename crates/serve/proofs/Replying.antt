@@ -11,7 +11,7 @@ use Rattle.mondschein.specs.Outcome.{Outcome}
 use Rattle.network.specs.Load.{networkOf}
 use Rattle.session.specs.declared.Session.{Session}
 use Rattle.session.specs.Session.{emptySession, loadedBy, offeredBy, closedBy}
-use Rattle.lines.specs.Replies.{Reply, opened, new, closed, walked, cleared, reply}
+use Rattle.replies.specs.Replies.{Reply, opened, new, closed, walked, cleared, reply}
 use Rattle.collect.specs.declared.Kept.{Kept}
 use Rattle.collect.specs.declared.Call.{Call as Code·Call}
 use Rattle.collect.specs.declared.Call.the-variants.{Open, Ear, Close, Clear}

@@ -6,7 +6,7 @@ use mathlib.Core.List.{List, _++_}
 use Prim.Native.Nat.{ℕ}
 use lib.ListN.{take}
 use Rattle.session.specs.declared.Session.{Session}
-use Rattle.lines.specs.Replies.{Reply, reply}
+use Rattle.replies.specs.Replies.{Reply, reply}
 use Rattle.collect.specs.declared.Kept.{Kept}
 use Rattle.collect.specs.declared.Request.{Request}
 use Rattle.collect.specs.declared.Request.the-variants.{Walk}

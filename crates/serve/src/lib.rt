@@ -18,7 +18,7 @@ ghost use Rattle.judge.specs.Ear.{earAnswer};
 ghost use Rattle.tables.specs.Tables.{closeAnswer};
 ghost use Rattle.walks.specs.Walks.{walkAnswer};
 ghost use Rattle.session.specs.Session.{emptySession, loadedBy, offeredBy, closedBy};
-ghost use Rattle.lines.specs.Replies.{opened, new, closed, walked, cleared, reply};
+ghost use Rattle.replies.specs.Replies.{opened, new, closed, walked, cleared, reply};
 ghost use Rattle.collect.specs.declared.Request.the-variants as Request·;
 ghost use Rattle.collect.specs.Dialogue.{replyTo};
 ghost use Rattle.collect.specs.Answering.{Printed, freshKept};
@@ -30,8 +30,8 @@ fn reply_to_load(answer: Load, out: &mut [u8]) -> usize
     ensures { λ r. ⌜ Printed (reply (replyTo (λ vs. opened (at vs 0) (at vs 1)) (loadAnswer answer))) (now (out .entry)) r (now (out .exit)) ⌝ }
 {
     match answer {
-        Load::Loaded(n, m) => lines::write_opened(out, n, m),
-        Load::Refused(number, place) => lines::write_refused(out, number, place),
+        Load::Loaded(n, m) => replies::write_opened(out, n, m),
+        Load::Refused(number, place) => replies::write_refused(out, number, place),
     }
 }
 
@@ -41,8 +41,8 @@ fn reply_to_ear(answer: Ear, out: &mut [u8]) -> usize
     ensures { λ r. ⌜ Printed (reply (replyTo (λ vs. new (at vs 0)) (earAnswer answer))) (now (out .entry)) r (now (out .exit)) ⌝ }
 {
     match answer {
-        Ear::New(count) => lines::write_new(out, count),
-        Ear::Refused(number, place) => lines::write_refused(out, number, place),
+        Ear::New(count) => replies::write_new(out, count),
+        Ear::Refused(number, place) => replies::write_refused(out, number, place),
     }
 }
 
@@ -52,8 +52,8 @@ fn reply_to_close(answer: Close, out: &mut [u8]) -> usize
     ensures { λ r. ⌜ Printed (reply (replyTo (λ vs. closed) (closeAnswer answer))) (now (out .entry)) r (now (out .exit)) ⌝ }
 {
     match answer {
-        Close::Closed => lines::write_closed(out),
-        Close::Refused(number, place) => lines::write_refused(out, number, place),
+        Close::Closed => replies::write_closed(out),
+        Close::Refused(number, place) => replies::write_refused(out, number, place),
     }
 }
 
@@ -65,9 +65,9 @@ fn reply_to_walk(answer: Walk, switch: u16, tree: u16, route: &[u16], out: &mut 
     match answer {
         Walk::Count(count) => {
             let shown = transcript::least(count as usize, route.len());
-            lines::write_walk(out, switch, tree, &route[..shown])
+            replies::write_walk(out, switch, tree, &route[..shown])
         }
-        Walk::Refused(number, place) => lines::write_refused(out, number, place),
+        Walk::Refused(number, place) => replies::write_refused(out, number, place),
     }
 }
 
@@ -134,7 +134,7 @@ fn clear(r: Reader, out: &mut [u8]) -> Called
     requires { ⌜ 8192 ≤ length (now out) ⌝ }
     ensures { λ c. ⌜ repliedIn (c .reader) (c .session) (now (out .exit)) ≡ repliedBy r freshKept emptySession cleared ⌝ }
 {
-    let written = lines::write_cleared(out);
+    let written = replies::write_cleared(out);
     let kept = Kept::fresh();
     let mut dropped = r;
     dropped.kept = kept;

@@ -13,7 +13,7 @@ same-length : tie.Need-same-length
 same-length c = search needs
 
 returns : tie.Need-returns
-returns c = let a = c .before .before .before .before .before .before .before .args in link-full (a .d) (a .links .now) (a .number) (a .a) (a .b) (c .before .before .before .before .before .before .before .pre .0) _ (c .before .before .unread .result) (c .before .before .before .before .if1 .taken) (c .before .before .unread .ensures)
+returns c = let a = c .before .before .before .before .before .before .before .args in link-full (a .d) (a .links .now) (a .number) (a .a) (a .b) (c .before .before .before .before .before .before .before .pre .0) _ (c .before .before .unread .result) (omega (arith, c .before .before .before .before .if1 .taken)) (c .before .before .unread .ensures)
 
 cast-i : tie.Need-cast-i
 cast-i c = search needs
@@ -46,7 +46,7 @@ same-length-2 : tie.Need-same-length-2
 same-length-2 c = search needs
 
 returns-2 : tie.Need-returns-2
-returns-2 c = let a = c .before .before .before .before .args in link-more (a .d) (a .links .now) (a .number) (a .a) (a .b) (c .before .before .before .before .pre .0) (a .out .now) (c .asking .result) (c .before .if1 .left) (c .asking .ensures)
+returns-2 c = let a = c .before .before .before .before .args in link-more (a .d) (a .links .now) (a .number) (a .a) (a .b) (c .before .before .before .before .pre .0) (a .out .now) (c .asking .result) (omega (arith, c .before .if1 .left)) (c .asking .ensures)
 
 pub collect-link-spec : {M : Type 1} → statement M
 collect-link-spec =

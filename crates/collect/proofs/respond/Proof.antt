@@ -2,7 +2,7 @@ use mathlib.Core.Path.{sym, ap, _∙_}
 use Rattle.lines.specs.declared.Form.{Form}
 use Rattle.collect.specs.declared.Answered.{Answered}
 use Rattle.collect.specs.Dialogue.{respond}
-use Rattle.collect.specs.Answering.{dialogueIn, formOf, requested, toldIn, turnOf, respondTo}
+use Rattle.collect.specs.Answering.{dialogueIn, formOf, requested, effectIn, turnOf, respondTo}
 use borrow.Author.Needs.{needs}
 use Rattle.collect.proofs.respond.Statement.{statement}
 use Rattle.collect.proofs.respond.Tie as tie
@@ -57,7 +57,7 @@ unread-requires c κs = search needs
 
 returns : tie.Need-returns
 unfolding respond requested respondTo
-returns c = let a = c .before .before .before .before .before .before .args in λ s numbers. ap (λ (r : Answered). turnOf s (a .number) numbers (a .links .now) (toldIn r (a .out .now))) (c .collect-net .ensures) ∙ sym (ap (λ (f : Form). respondTo (dialogueIn (a .d) s (a .links .now)) (a .number) f numbers) (c .before .before .form .given .1))
+returns c = let a = c .before .before .before .before .before .before .args in λ s numbers. ap (λ (r : Answered). turnOf s (a .number) numbers (a .links .now) (effectIn r (a .out .now))) (c .collect-net .ensures) ∙ sym (ap (λ (f : Form). respondTo (dialogueIn (a .d) s (a .links .now)) (a .number) f numbers) (c .before .before .form .given .1))
 
 same-length : tie.Need-same-length
 same-length c = search needs
@@ -71,23 +71,23 @@ returns-2 c = let a = c .before .before .before .before .before .before .before 
 
 returns-3 : tie.Need-returns-3
 unfolding formOf requested respondTo
-returns-3 c = let a = c .before .before .before .before .before .args in λ s numbers. ap (λ (r : Answered). turnOf s (a .number) numbers (a .links .now) (toldIn r (a .out .now))) (c .asking .ensures) ∙ sym (ap (λ (f : Form). respondTo (dialogueIn (a .d) s (a .links .now)) (a .number) f numbers) (c .before .enum-told .given .1))
+returns-3 c = let a = c .before .before .before .before .before .args in λ s numbers. ap (λ (r : Answered). turnOf s (a .number) numbers (a .links .now) (effectIn r (a .out .now))) (c .asking .ensures) ∙ sym (ap (λ (f : Form). respondTo (dialogueIn (a .d) s (a .links .now)) (a .number) f numbers) (c .before .enum-told .given .1))
 
 returns-4 : tie.Need-returns-4
 unfolding formOf requested respondTo
-returns-4 c = let a = c .before .before .before .before .before .before .args in λ s numbers. ap (λ (r : Answered). turnOf s (a .number) numbers (a .links .now) (toldIn r (a .out .now))) (c .asking2 .ensures) ∙ sym (ap (λ (f : Form). respondTo (dialogueIn (a .d) s (a .links .now)) (a .number) f numbers) (c .before .before .form3 .given .1))
+returns-4 c = let a = c .before .before .before .before .before .before .args in λ s numbers. ap (λ (r : Answered). turnOf s (a .number) numbers (a .links .now) (effectIn r (a .out .now))) (c .asking2 .ensures) ∙ sym (ap (λ (f : Form). respondTo (dialogueIn (a .d) s (a .links .now)) (a .number) f numbers) (c .before .before .form3 .given .1))
 
 returns-5 : tie.Need-returns-5
 unfolding formOf requested respondTo
-returns-5 c = let a = c .before .before .before .before .before .args in λ s numbers. ap (λ (r : Answered). turnOf s (a .number) numbers (a .links .now) (toldIn r (a .out .now))) (c .asking3 .ensures) ∙ sym (ap (λ (f : Form). respondTo (dialogueIn (a .d) s (a .links .now)) (a .number) f numbers) (c .before .enum-told2 .given .1))
+returns-5 c = let a = c .before .before .before .before .before .args in λ s numbers. ap (λ (r : Answered). turnOf s (a .number) numbers (a .links .now) (effectIn r (a .out .now))) (c .asking3 .ensures) ∙ sym (ap (λ (f : Form). respondTo (dialogueIn (a .d) s (a .links .now)) (a .number) f numbers) (c .before .enum-told2 .given .1))
 
 returns-6 : tie.Need-returns-6
 unfolding requested respondTo
-returns-6 c = let a = c .before .before .before .before .before .before .args in λ s numbers. ap (λ (r : Answered). turnOf s (a .number) numbers (a .links .now) (toldIn r (a .out .now))) (c .asking4 .ensures) ∙ sym (ap (λ (f : Form). respondTo (dialogueIn (a .d) s (a .links .now)) (a .number) f numbers) (c .before .before .form4 .given .1))
+returns-6 c = let a = c .before .before .before .before .before .before .args in λ s numbers. ap (λ (r : Answered). turnOf s (a .number) numbers (a .links .now) (effectIn r (a .out .now))) (c .asking4 .ensures) ∙ sym (ap (λ (f : Form). respondTo (dialogueIn (a .d) s (a .links .now)) (a .number) f numbers) (c .before .before .form4 .given .1))
 
 returns-7 : tie.Need-returns-7
 unfolding formOf requested respondTo
-returns-7 c = let a = c .before .before .before .before .before .args in λ s numbers. ap (λ (r : Answered). turnOf s (a .number) numbers (a .links .now) (toldIn r (a .out .now))) (c .asking5 .ensures) ∙ sym (ap (λ (f : Form). respondTo (dialogueIn (a .d) s (a .links .now)) (a .number) f numbers) (c .before .enum-told3 .given .1))
+returns-7 c = let a = c .before .before .before .before .before .args in λ s numbers. ap (λ (r : Answered). turnOf s (a .number) numbers (a .links .now) (effectIn r (a .out .now))) (c .asking5 .ensures) ∙ sym (ap (λ (f : Form). respondTo (dialogueIn (a .d) s (a .links .now)) (a .number) f numbers) (c .before .enum-told3 .given .1))
 
 same-length-3 : tie.Need-same-length-3
 same-length-3 c = search needs

@@ -2,7 +2,7 @@ use Prim.Native.Nat.{ℕ}
 use mathlib.Core.Path.{ap}
 use mathlib.Core.Bool.{true}
 use mathlib.Core.List.{List}
-use Rattle.lines.specs.Replies.{unread, reply}
+use Rattle.replies.specs.Replies.{unread, reply}
 use Rattle.collect.specs.declared.Request.the-variants.{Nothing}
 use Rattle.collect.proofs.Collecting.{printed-back}
 use borrow.Author.Needs.{needs}

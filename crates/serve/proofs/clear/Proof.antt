@@ -1,6 +1,6 @@
 use mathlib.Core.Path.{ap₂, _∙_}
 use Rattle.session.specs.declared.Session.{Session}
-use Rattle.lines.specs.Replies.{cleared}
+use Rattle.replies.specs.Replies.{cleared}
 use Rattle.collect.specs.declared.Kept.{Kept}
 use Rattle.serve.specs.Serving.{repliedBy}
 use Rattle.serve.proofs.Replying.{replied-with}

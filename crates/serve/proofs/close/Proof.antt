@@ -1,5 +1,5 @@
 use Rattle.tables.specs.Tables.{closeAnswer}
-use Rattle.lines.specs.Replies.{closed}
+use Rattle.replies.specs.Replies.{closed}
 use Rattle.serve.proofs.Replying.{replied-call}
 use borrow.Author.Needs.{needs}
 use Rattle.serve.proofs.close.Statement.{statement}

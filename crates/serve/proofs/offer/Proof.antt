@@ -2,7 +2,7 @@ use mathlib.Core.Path.{ap, _∙_}
 use Rattle.mondschein.specs.Network.{at}
 use Rattle.judge.specs.Ear.{earAnswer}
 use Rattle.session.specs.Session.{offeredBy}
-use Rattle.lines.specs.Replies.{new}
+use Rattle.replies.specs.Replies.{new}
 use Rattle.transcript.proofs.Prefixes.{least-length, least-take}
 use Rattle.serve.proofs.Replying.{replied-call}
 use borrow.Author.Needs.{needs}

@@ -4,7 +4,7 @@ use mathlib.Core.List.{List}
 use Rattle.mondschein.specs.Network.{at}
 use Rattle.network.specs.Load.{networkOf, loadAnswer}
 use Rattle.session.specs.Session.{loadedBy}
-use Rattle.lines.specs.Replies.{opened}
+use Rattle.replies.specs.Replies.{opened}
 use Rattle.transcript.proofs.Prefixes.{least-length, least-take}
 use Rattle.serve.proofs.Replying.{replied-call}
 use borrow.Author.Needs.{needs}

@@ -1,7 +1,7 @@
 use mathlib.Core.Path.{ap}
 use Rattle.tables.specs.declared.Close.{Close}
 use Rattle.tables.specs.Tables.{closeAnswer}
-use Rattle.lines.specs.Replies.{closed}
+use Rattle.replies.specs.Replies.{closed}
 use Rattle.collect.specs.Dialogue.{replyTo}
 use Rattle.serve.proofs.Replying.{printed-as}
 use borrow.Author.Needs.{needs}

@@ -2,7 +2,7 @@ use mathlib.Core.Path.{ap}
 use Rattle.mondschein.specs.Network.{at}
 use Rattle.judge.specs.declared.Ear.{Ear}
 use Rattle.judge.specs.Ear.{earAnswer}
-use Rattle.lines.specs.Replies.{new}
+use Rattle.replies.specs.Replies.{new}
 use Rattle.collect.specs.Dialogue.{replyTo}
 use Rattle.serve.proofs.Replying.{printed-as}
 use borrow.Author.Needs.{needs}

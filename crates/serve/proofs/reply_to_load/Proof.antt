@@ -2,7 +2,7 @@ use mathlib.Core.Path.{ap}
 use Rattle.mondschein.specs.Network.{at}
 use Rattle.network.specs.declared.Load.{Load}
 use Rattle.network.specs.Load.{loadAnswer}
-use Rattle.lines.specs.Replies.{opened}
+use Rattle.replies.specs.Replies.{opened}
 use Rattle.collect.specs.Dialogue.{replyTo}
 use Rattle.serve.proofs.Replying.{printed-as}
 use borrow.Author.Needs.{needs}

@@ -5,7 +5,7 @@ use lib.ListN.{length, take}
 use Rattle.mondschein.specs.Network.{at}
 use Rattle.walks.specs.declared.Walk.{Walk}
 use Rattle.walks.specs.Walks.{walkAnswer}
-use Rattle.lines.specs.Replies.{walked}
+use Rattle.replies.specs.Replies.{walked}
 use Rattle.collect.specs.Dialogue.{replyTo}
 use Rattle.transcript.proofs.Prefixes.{least-length, least-take}
 use Rattle.serve.proofs.Replying.{printed-as}

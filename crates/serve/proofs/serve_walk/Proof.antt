@@ -2,7 +2,7 @@ use mathlib.Core.Path.{refl}
 use Rattle.mondschein.specs.Network.{at}
 use lib.ListN.{take, replicate}
 use Rattle.session.specs.Program.{walkedBy}
-use Rattle.lines.specs.Replies.{walked}
+use Rattle.replies.specs.Replies.{walked}
 use Rattle.collect.specs.declared.Request.the-variants.{Walk}
 use Rattle.collect.specs.Dialogue.{replyTo, respond}
 use Rattle.collect.specs.Answering.{requested}

@@ -1,9 +1,9 @@
 use mathlib.Core.Path.{_∙_}
 use native.Mathlib.Omega.{arith}
-use Rattle.lines.proofs.Slices.{wrote-line}
+use Rattle.replies.proofs.Slices.{wrote-line}
 use borrow.Author.Needs.{needs}
-use Rattle.lines.proofs.write_line.Statement.{statement}
-use Rattle.lines.proofs.write_line.Tie as tie
+use Rattle.replies.proofs.write_line.Statement.{statement}
+use Rattle.replies.proofs.write_line.Tie as tie
 
 put-head-requires : tie.Need-put-head-requires
 put-head-requires c κs = search needs

@@ -2,15 +2,15 @@ use Prim.Native.Nat.{_≤_, _<_, _-_}
 use mathlib.Core.Path.{_∙_}
 use native.Mathlib.Omega.{arith}
 use lib.ListN.{length, getD, drop, length-take, length-drop}
 use Rattle.lines.specs.Writing.{decimal}
 use Rattle.lines.proofs.Decimals.{decimal-short}
-use Rattle.lines.proofs.Slices.{wrote-none, wrote-more, joined-none, joined-first}
+use Rattle.replies.proofs.Slices.{wrote-none, wrote-more, separated-none, separated-first}
 use borrow.Author.Needs.{needs}
-use Rattle.lines.proofs.put_joined.Statement.{statement}
-use Rattle.lines.proofs.put_joined.Tie as tie
+use Rattle.replies.proofs.put_separated.Statement.{statement}
+use Rattle.replies.proofs.put_separated.Tie as tie
 
 returns : tie.Need-returns
-returns c = (rw (joined-none (c .before .before .before .args .numbers .now) (c .if1 .taken)) (wrote-none (c .before .before .before .args .at) (c .before .before .before .args .out .now)), omega arith)
+returns c = (rw (separated-none (c .before .before .before .args .numbers .now) (c .if1 .taken)) (wrote-none (c .before .before .before .args .at) (c .before .before .before .args .out .now)), omega arith)
 
 shared-slice-read-put-number : tie.Need-shared-slice-read-put-number
 shared-slice-read-put-number c = search needs
@@ -47,12 +47,12 @@ returns-2 c =
     let x = getD ns 0 0 in
     let b : x ≤ 65535 = omega (arith, c .before .before .before .before .before .before .before .before .shared-slice-known2 .given 0) in
     let h : 0 < length ns = omega arith in (
-      rw (joined-first ns h) (wrote-more (a .at) (decimal x) (a .out .now) _ _ (omega arith) (c .before .before .before .before .before .before .before .put-number .ensures) _ _ _ (c .before .before .put-spaced .ensures .0)),
+      rw (separated-first ns h) (wrote-more (a .at) (decimal x) (a .out .now) _ _ (omega arith) (c .before .before .before .before .before .before .before .put-number .ensures) _ _ _ (c .before .before .put-spaced .ensures .0)),
       omega (arith, decimal-short x b, c .before .before .before .before .before .before .before .put-number .ensures .ended, c .before .before .put-spaced .ensures .1, length-take (length ns - 1) (drop 1 ns), length-drop 1 ns),
     )
 
-pub put-joined-spec : {M : Type 1} → statement M
-put-joined-spec =
+pub put-separated-spec : {M : Type 1} → statement M
+put-separated-spec =
     tie.close
     (tie.spec
     returns

@@ -1,17 +1,17 @@
 use native.Mathlib.Omega.{arith}
 use lib.ListN.{length-set}
 use borrow.Author.Needs.{needs}
 use Rattle.lines.specs.Writing.{decimal}
 use Rattle.lines.proofs.Decimals.{decimal-digit, decimal-tenth, decimal-some, tenth-length}
-use Rattle.lines.proofs.Slices.{wrote-one, wrote-byte}
+use Rattle.replies.proofs.Slices.{wrote-one, wrote-byte}
 use Prim.Native.Nat.{ℕ, _+_, _/_, _%_, _<_}
 use borrow.Fn.Kinds.{In}
 use borrow.Fn.PlainCycle.{Measures, is, falls, and}
-use Rattle.lines.proofs.put_number.Reads as put-number
-use Rattle.lines.proofs.put_number.Kinds as put-number-kinds
-use Rattle.lines.proofs.+put_number.Lts-put_number as put-number-lts
-use Rattle.lines.proofs.+put_number.{statement}
-use Rattle.lines.proofs.+put_number.Tie.{close}
+use Rattle.replies.proofs.put_number.Reads as put-number
+use Rattle.replies.proofs.put_number.Kinds as put-number-kinds
+use Rattle.replies.proofs.+put_number.Lts-put_number as put-number-lts
+use Rattle.replies.proofs.+put_number.{statement}
+use Rattle.replies.proofs.+put_number.Tie.{close}
 
 abbrev μ-put-number : Measures 1 put-number-kinds.ps ℕ
 μ-put-number κs a = a .1 .1 .0

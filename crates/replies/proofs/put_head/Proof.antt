@@ -1,9 +1,9 @@
 use mathlib.Core.Path.{_∙_}
 use native.Mathlib.Omega.{arith}
-use Rattle.lines.proofs.Slices.{wrote-after}
+use Rattle.replies.proofs.Slices.{wrote-after}
 use borrow.Author.Needs.{needs}
-use Rattle.lines.proofs.put_head.Statement.{statement}
-use Rattle.lines.proofs.put_head.Tie as tie
+use Rattle.replies.proofs.put_head.Statement.{statement}
+use Rattle.replies.proofs.put_head.Tie as tie
 
 slice-aggregate-put : tie.Need-slice-aggregate-put
 slice-aggregate-put c = search needs

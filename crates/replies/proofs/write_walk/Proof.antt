@@ -1,7 +1,7 @@
-use Rattle.lines.proofs.Slices.{wrote-walk}
+use Rattle.replies.proofs.Slices.{wrote-walk}
 use borrow.Author.Needs.{needs}
-use Rattle.lines.proofs.write_walk.Statement.{statement}
-use Rattle.lines.proofs.write_walk.Tie as tie
+use Rattle.replies.proofs.write_walk.Statement.{statement}
+use Rattle.replies.proofs.write_walk.Tie as tie
 
 slice-aggregate-put-head : tie.Need-slice-aggregate-put-head
 slice-aggregate-put-head c = search needs
@@ -18,8 +18,8 @@ slice-aggregate-put c = search needs
 put-requires : tie.Need-put-requires
 put-requires c κs = search needs
 
-put-joined-requires : tie.Need-put-joined-requires
-put-joined-requires c κs = search needs
+put-separated-requires : tie.Need-put-separated-requires
+put-separated-requires c κs = search needs
 
 slice-aggregate-put-2 : tie.Need-slice-aggregate-put-2
 slice-aggregate-put-2 c = search needs
@@ -31,7 +31,7 @@ same-length : tie.Need-same-length
 same-length c = search needs
 
 returns : tie.Need-returns
-returns c = let a = c .before .before .before .before .before .before .before .before .before .before .before .before .before .before .before .before .before .before .before .before .before .before .args in wrote-walk (a .switch) (a .tree) (a .switches .now) (a .out .now) (c .before .before .before .before .before .before .before .before .before .before .before .before .before .before .before .before .put-head .ensures .0) (c .before .before .before .before .before .before .before .before .before .before .before .put .ensures) (c .before .before .before .before .before .before .before .put-joined .ensures .0) (c .before .before .put2 .ensures)
+returns c = let a = c .before .before .before .before .before .before .before .before .before .before .before .before .before .before .before .before .before .before .before .before .before .before .args in wrote-walk (a .switch) (a .tree) (a .switches .now) (a .out .now) (c .before .before .before .before .before .before .before .before .before .before .before .before .before .before .before .before .put-head .ensures .0) (c .before .before .before .before .before .before .before .before .before .before .before .put .ensures) (c .before .before .before .before .before .before .before .put-separated .ensures .0) (c .before .before .put2 .ensures)
 
 pub write-walk-spec : {M : Type 1} → statement M
 write-walk-spec =
@@ -42,7 +42,7 @@ write-walk-spec =
     put-head-requires
     slice-aggregate-put
     put-requires
-    put-joined-requires
+    put-separated-requires
     slice-aggregate-put-2
     put-requires-2
     same-length

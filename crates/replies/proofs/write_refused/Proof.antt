@@ -1,6 +1,6 @@
 use borrow.Author.Needs.{needs}
-use Rattle.lines.proofs.write_refused.Statement.{statement}
-use Rattle.lines.proofs.write_refused.Tie as tie
+use Rattle.replies.proofs.write_refused.Statement.{statement}
+use Rattle.replies.proofs.write_refused.Tie as tie
 
 slice-aggregate-write-line : tie.Need-slice-aggregate-write-line
 slice-aggregate-write-line c = search needs

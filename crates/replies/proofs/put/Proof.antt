@@ -3,10 +3,10 @@ use mathlib.Core.Path.{_≡_, refl}
 use native.Mathlib.Omega.{arith}
 use lib.ListN.{length, take, length-set}
 use borrow.Author.Needs.{needs}
-use Rattle.lines.specs.Replies.{Wrote}
-use Rattle.lines.proofs.Slices.{wrote-none, wrote-next, wrote-all}
-use Rattle.lines.proofs.put.Statement.{statement}
-use Rattle.lines.proofs.put.Tie as tie
+use Rattle.replies.specs.Replies.{Wrote}
+use Rattle.replies.proofs.Slices.{wrote-none, wrote-next, wrote-all}
+use Rattle.replies.proofs.put.Statement.{statement}
+use Rattle.replies.proofs.put.Tie as tie
 
 abbrev Inv-loop : tie.InvT-loop
 Inv-loop out₀ at bytes next₀ k₀ out next k = (k ≤ length bytes) × (next ≡ at + k) × (length out ≡ length out₀) × Wrote at (take k bytes) out₀ next out

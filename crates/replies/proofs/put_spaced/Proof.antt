@@ -4,13 +4,13 @@ use native.Mathlib.Omega.{arith}
 use lib.ListN.{length, getD, take}
 use borrow.Author.Needs.{needs}
 use mathlib.Core.List.{map}
 use Rattle.lines.specs.Writing.{decimal, spaced}
-use Rattle.lines.specs.Replies.{Wrote}
+use Rattle.replies.specs.Replies.{Wrote}
 use Rattle.lines.proofs.Decimals.{decimal-short}
-use Rattle.lines.proofs.Slices.{wrote-none, wrote-number}
+use Rattle.replies.proofs.Slices.{wrote-none, wrote-number}
 use lib.Seq.{take-all}
-use Rattle.lines.proofs.put_spaced.Statement.{statement}
-use Rattle.lines.proofs.put_spaced.Tie as tie
+use Rattle.replies.proofs.put_spaced.Statement.{statement}
+use Rattle.replies.proofs.put_spaced.Tie as tie
 
 abbrev Inv-loop : tie.InvT-loop
 Inv-loop out₀ at numbers next₀ k₀ t7 out next k = (k ≤ length numbers) × (next ≤ at + 6 * k) × (length out ≡ length out₀) × Wrote at (spaced (map decimal (take k numbers))) out₀ next out
