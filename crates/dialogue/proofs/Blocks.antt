@@ -99,7 +99,7 @@ module _ (r₀ : Code·Reader) (s₀ : Session) (links₀ line₀ block : List �
         ∙ ap (λ (l : List ℕ). foldl (fed turn) (readerIn x s′ links′ line′ l) (drop (h .next) block)) (append-assoc printed output (take (x .written) out))
 
 -- a slice whose part from w on was lent, and has come back as p
-abbrev back : List ℕ → ℕ → List ℕ → List ℕ
+abbrev pub back : List ℕ → ℕ → List ℕ → List ℕ
 back o w p = take w o ++ (p ++ drop (length o - w) (drop w o))
 
 module _ (o : List ℕ) (w : ℕ) (h : w ≤ length o) (p : List ℕ) (q : length p ≡ length (take (length o - w) (drop w o))) where

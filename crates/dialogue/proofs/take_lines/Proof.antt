@@ -1,10 +1,12 @@
-use Prim.Native.Nat.{_-_}
+use Prim.Native.Nat.{ℕ, _-_}
+use mathlib.Core.Path.{_≡_}
 use mathlib.Core.Logic.{⊎-elim}
+use mathlib.Core.List.{List}
 use native.Mathlib.Omega.{arith}
-use lib.ListN.{length}
+use lib.ListN.{length, take, drop}
 use borrow.Author.Tests.{not-false, not-true}
 use borrow.Author.Needs.{needs}
-use Rattle.dialogue.proofs.Blocks.{back-length, Reached, reached-begin, reached-held, reached-all, reached-more, Lengths, lengths-begin, lengths-again}
+use Rattle.dialogue.proofs.Blocks.{back, back-length, Reached, reached-begin, reached-held, reached-all, reached-more, Lengths, lengths-begin, lengths-again}
 use Rattle.dialogue.proofs.take_lines.Statement.{statement}
 use Rattle.dialogue.proofs.take_lines.Tie as tie
 
@@ -40,6 +42,18 @@ loop-holds c =
       lengths-begin (a .line .now) (a .numbers .now) (a .links .now) (a .out .now) (p .1) (p .2) (p .3) (p .4),
     )
 
+-- the part of the replies' slice that a line's reply is written into, as it came back; the slice is as long as it was
+abbrev part : tie.After-take-line Inv-loop μ-loop → List ℕ
+part t = t .take-line .last .1 .1 .1 .1 .1 .0
+
+abbrev part-length : (t : tie.After-take-line Inv-loop μ-loop) → (let l = body (at-hold t) .before .loop in length (part t) ≡ length (take (length (l .out) - l .written) (drop (l .written) (l .out))))
+part-length t = t .take-line .kept .1 .1 .1 .1 .1 .0
+
+whole : (t : tie.After-take-line Inv-loop μ-loop) → (let l = body (at-hold t) .before .loop in length (back (l .out) (l .written) (part t)) ≡ length (l .out))
+whole t =
+    let l = body (at-hold t) .before .loop in
+    back-length (l .out) (l .written) (l .inv .0 .room) (part t) (part-length t)
+
 sub-if1 : tie.Need-sub-if1 Inv-loop μ-loop
 sub-if1 c = search needs
 
@@ -62,7 +76,7 @@ sub-least : tie.Need-sub-least Inv-loop μ-loop
 sub-least c =
     let t = at-take c in
     let l = body (at-hold t) .before .loop in
-    omega (arith, l .inv .0 .room, back-length (l .out) (l .written) (l .inv .0 .room) (t .take-line .last .1 .1 .1 .1 .1 .0) (t .take-line .kept .1 .1 .1 .1 .1 .0))
+    omega (arith, l .inv .0 .room, whole t)
 
 least-requires : tie.Need-least-requires Inv-loop μ-loop
 least-requires c κs = search needs
@@ -71,14 +85,7 @@ add-written : tie.Need-add-written Inv-loop μ-loop
 add-written c =
     let t = at-take (c .before) in
     let l = body (at-hold t) .before .loop in
-    omega (
-      arith,
-      c .least .ensures,
-      l .inv .0 .room,
-      l .inv .1 .out-same,
-      back-length (l .out) (l .written) (l .inv .0 .room) (t .take-line .last .1 .1 .1 .1 .1 .0) (t .take-line .kept .1 .1 .1 .1 .1 .0),
-      start (body (at-hold t)) .good .1 .1 .1 .1 .1 .1 .1 .0 .0,
-    )
+    omega (arith, c .least .ensures, l .inv .0 .room, l .inv .1 .out-same, whole t, start (body (at-hold t)) .good .1 .1 .1 .1 .1 .1 .1 .0 .0)
 
 loop-less : tie.Need-loop-less Inv-loop μ-loop
 loop-less c =
@@ -92,10 +99,11 @@ loop-again c =
     let h = at-hold t .hold-line in
     let l = body (at-hold t) .before .loop in
     let ends = not-false _ (at-end t .if2 .left) in
-    let part = t .take-line .last .1 .1 .1 .1 .1 .0 in
-    let long = t .take-line .kept .1 .1 .1 in (
-      reached-more (l .inv .0) (h .result) _ (h .ensures .0) ends (h .ensures .1 .0) (h .ensures .1 .1 ends) (t .take-line .result .reader) (t .take-line .result .session) _ part (long .1 .1 .0) (t .take-line .ensures) (c .least .result) (c .least .ensures),
-      lengths-again (l .inv .1) _ _ _ _ (h .kept .0) (long .0) (long .1 .0) (back-length (l .out) (l .written) (l .inv .0 .room) part (long .1 .1 .0)),
+    let e = t .take-line in
+    let kept = e .kept .1 .1 .1 in
+    let more = reached-more (l .inv .0) (h .result) _ (h .ensures .0) ends (h .ensures .1 .0) (h .ensures .1 .1 ends) in (
+      more (e .result .reader) (e .result .session) _ (part t) (part-length t) (e .ensures) (c .least .result) (c .least .ensures),
+      lengths-again (l .inv .1) _ _ _ _ (h .kept .0) (kept .0) (kept .1 .0) (whole t),
     )
 
 same-length : tie.Need-same-length Inv-loop μ-loop
