@@ -1,5 +1,5 @@
--- Laws of a block that is taken line by line, its replies one after another in a slice: where it stands between two lines, and where it
--- ends. What was printed before changes nothing but itself.
+-- Laws of a line that ends and has what it asks of the session, and of a block that is taken line by line, its replies one after another
+-- in a slice: where it stands between two lines, and where it ends.
 use mathlib.Core.Path.{_≡_, refl, sym, ap, _∙_}
 use mathlib.Core.Logic.{_⊎_, inl, inr}
 use mathlib.Core.Bool.{Bool, true, false, cond}
@@ -29,15 +29,17 @@ abbrev left : Reader Dialogue → List ℕ → Reader Dialogue
 left r block = unprinted (foldl (fed turn) r block)
 
 -- where a block stands at a byte: what the rest leads to from there is what the block leads to
-abbrev pub Taking : Reader Dialogue → List ℕ → Code·Reader → Session → List ℕ → List ℕ → ℕ → Type 0
-Taking start block r s links line from = left start block ≡ left (readerIn r s links line []) (drop from block)
+pub record StandsAt (start : Reader Dialogue) (block : List ℕ) (r : Code·Reader) (s : Session) (links line : List ℕ) (from : ℕ) : Type 0 where
+  pub leads : left start block ≡ left (readerIn r s links line []) (drop from block)
 
-module _ (start : Reader Dialogue) (block : List ℕ) (r : Code·Reader) (s : Session) (links line : List ℕ) (from : ℕ) (at : Taking start block r s links line from) where
-  pub taking-end : length block ≤ from → readerIn r s links line [] ≡ left start block
-  taking-end h = sym (at ∙ ap (left (readerIn r s links line [])) (drop-of-length-le block {i = from} h))
+module _ {start : Reader Dialogue} {block : List ℕ} {r : Code·Reader} {s : Session} {links line : List ℕ} {from : ℕ} (at : StandsAt start block r s links line from) where
+  pub stands-end : length block ≤ from → readerIn r s links line [] ≡ left start block
+  stands-end h = sym (at .leads ∙ ap (left (readerIn r s links line [])) (drop-of-length-le block {i = from} h))
 
-  pub taking-lines : (x : Code·Reader) (s′ : Session) (links′ line′ : List ℕ) (next : ℕ) (output : List ℕ) → TakesLines r s links line block from x s′ links′ line′ next output → Taking start block x s′ links′ line′ next
-  taking-lines x s′ links′ line′ next output t = at ∙ ap unprinted (t []) ∙ unprinted-foldl turn (readerIn x s′ links′ line′ output) (drop next block)
+  pub stands-lines : (x : Code·Reader) (s′ : Session) (links′ line′ : List ℕ) (next : ℕ) (output : List ℕ)
+      → TakesLines r s links line block from x s′ links′ line′ next output → StandsAt start block x s′ links′ line′ next
+  stands-lines x s′ links′ line′ next output t =
+      record { leads = at .leads ∙ ap unprinted (t []) ∙ unprinted-foldl turn (readerIn x s′ links′ line′ output) (drop next block) }
 
 -- the line that is held ends
 module _ (r : Code·Reader) (s : Session) (links line : List ℕ) (e : Ending) (numbers links′ out : List ℕ) (ends : Ends r links line e numbers links′ out) where
@@ -54,49 +56,6 @@ module _ (r : Code·Reader) (s : Session) (links line : List ℕ) (e : Ending) (
       serves line (take (e .reader .written) out) printed
       ∙ sym (ap (λ (y : Request). served y numbers (take (e .reader .written) out) (readerIn (e .reader) s links′ line printed)) n)
       ∙ ends s printed
-
--- no line is taken
-lines-begin : (r : Code·Reader) (s : Session) (links line block : List ℕ) (from : ℕ) → TakesLines r s links line block from r s links line from []
-lines-begin r s links line block from printed = ap (λ (l : List ℕ). foldl (fed turn) (readerIn r s links line l) (drop from block)) (sym (append-nil printed))
-
--- what is known with the bytes that a block leaves of a line
-abbrev holding : Code·Reader → Held → Code·Reader
-holding r h = record { kept = r .kept; number = r .number; held = h .held; written = r .written; stopped = r .stopped }
-
--- one more line of a block is taken from a place on
-module _ (r₀ : Code·Reader) (s₀ : Session) (links₀ line₀ block : List ℕ) (from : ℕ) where
-  -- the line goes on in the block
-  module _ (r : Code·Reader) (s : Session) (links line : List ℕ) (at : ℕ) (output : List ℕ) (taken : TakesLines r₀ s₀ links₀ line₀ block from r s links line at output)
-      (h : Held) (line′ : List ℕ) (e : heldIn h line′ block ≡ heldLine (take (r .held) line) (drop at block)) where
-    lines-held : (b : Bool) → h .ends ≡ b → (printed : List ℕ)
-        → foldl (fed turn) (readerIn r₀ s₀ links₀ line₀ printed) (drop from block)
-        ≡ cond b (foldl (fed turn) (ended turn (readerIn (holding r h) s links line′ (printed ++ output))) (drop (h .next) block)) (readerIn (holding r h) s links line′ (printed ++ output))
-    lines-held b q printed =
-        let old = readerIn r s links line (printed ++ output) in
-        let new = readerIn (holding r h) s links line′ (printed ++ output) in
-        taken printed
-        ∙ line-by-line turn old (drop at block)
-        ∙ sym (ap (λ (l : LineHeld). cond (l .ends) (foldl (fed turn) (ended turn (withLine old (l .line))) (l .rest)) (withLine old (l .line))) e)
-        ∙ ap (λ (c : Bool). cond c (foldl (fed turn) (ended turn new) (drop (h .next) block)) new) q
-
-    -- it does not end there
-    module _ (q : h .ends ≡ false) where
-      all : drop (h .next) block ≡ []
-      all = ap (λ (l : LineHeld). l .rest) e ∙ held-all (drop at block) (take (r .held) line) (sym (ap (λ (l : LineHeld). l .ends) e) ∙ q)
-
-      lines-rest : TakesLines r₀ s₀ links₀ line₀ block from (holding r h) s links line′ (h .next) output
-      lines-rest printed = lines-held false q printed ∙ sym (ap (foldl (fed turn) (readerIn (holding r h) s links line′ (printed ++ output))) all)
-
-      lines-whole : length block ≤ h .next
-      lines-whole = omega (arith, ap length all, length-drop (h .next) block)
-
-    -- it ends there, and is taken
-    lines-more : h .ends ≡ true → (links′ out : List ℕ) (x : Code·Reader) (s′ : Session) → TakesLine (holding r h) s links line′ x s′ links′ out
-        → TakesLines r₀ s₀ links₀ line₀ block from x s′ links′ line′ (h .next) (output ++ take (x .written) out)
-    lines-more q links′ out x s′ t printed =
-        lines-held true q printed
-        ∙ ap (λ (y : Reader Dialogue). foldl (fed turn) y (drop (h .next) block)) (sym (t (printed ++ output)))
-        ∙ ap (λ (l : List ℕ). foldl (fed turn) (readerIn x s′ links′ line′ l) (drop (h .next) block)) (append-assoc printed output (take (x .written) out))
 
 -- a slice whose part from w on was lent, and has come back as p
 abbrev pub back : List ℕ → ℕ → List ℕ → List ℕ
@@ -127,32 +86,63 @@ pub record Reached (r₀ : Code·Reader) (s₀ : Session) (links₀ line₀ bloc
   pub onward : from ≤ next
   pub begun : (written ≡ 0) ⊎ (from < next)
 
+-- no line is taken
 pub reached-begin : (r : Code·Reader) (s : Session) (links line block : List ℕ) (from : ℕ) (out : List ℕ) → from ≤ length block → Reached r s links line block from r s links line from out 0
-reached-begin r s links line block from out h =
-    record { taken = lines-begin r s links line block from; within = h; room = omega arith; onward = omega arith; begun = inl refl }
+reached-begin r s links line block from out h = record {
+  taken = λ printed. ap (λ (l : List ℕ). foldl (fed turn) (readerIn r s links line l) (drop from block)) (sym (append-nil printed));
+  within = h;
+  room = omega arith;
+  onward = omega arith;
+  begun = inl refl;
+}
 
--- one more line is held, and taken where it ends
+-- what is known with the bytes that a block leaves of a line
+abbrev holding : Code·Reader → Held → Code·Reader
+holding r h = record { kept = r .kept; number = r .number; held = h .held; written = r .written; stopped = r .stopped }
+
+-- the line goes on in the block
 module _ {r₀ : Code·Reader} {s₀ : Session} {links₀ line₀ block : List ℕ} {from : ℕ} {r : Code·Reader} {s : Session} {links line : List ℕ} {at : ℕ} {out : List ℕ} {written : ℕ}
     (z : Reached r₀ s₀ links₀ line₀ block from r s links line at out written) (h : Held) (line′ : List ℕ) (e : heldIn h line′ block ≡ heldLine (take (r .held) line) (drop at block)) where
-  pub reached-held : h .ends ≡ false → TakesLines r₀ s₀ links₀ line₀ block from (holding r h) s links line′ (h .next) (take written out)
-  reached-held = lines-rest r₀ s₀ links₀ line₀ block from r s links line at (take written out) (z .taken) h line′ e
+  lines-held : (b : Bool) → h .ends ≡ b → (printed : List ℕ)
+      → foldl (fed turn) (readerIn r₀ s₀ links₀ line₀ printed) (drop from block)
+      ≡ (let new = readerIn (holding r h) s links line′ (printed ++ take written out) in cond b (foldl (fed turn) (ended turn new) (drop (h .next) block)) new)
+  lines-held b q printed =
+      let old = readerIn r s links line (printed ++ take written out) in
+      let new = readerIn (holding r h) s links line′ (printed ++ take written out) in
+      z .taken printed
+      ∙ line-by-line turn old (drop at block)
+      ∙ sym (ap (λ (l : LineHeld). cond (l .ends) (foldl (fed turn) (ended turn (withLine old (l .line))) (l .rest)) (withLine old (l .line))) e)
+      ∙ ap (λ (c : Bool). cond c (foldl (fed turn) (ended turn new) (drop (h .next) block)) new) q
 
-  pub reached-all : h .ends ≡ false → length block ≤ h .next
-  reached-all = lines-whole r₀ s₀ links₀ line₀ block from r s links line at (take written out) (z .taken) h line′ e
+  -- it does not end there
+  module _ (q : h .ends ≡ false) where
+    all : drop (h .next) block ≡ []
+    all = ap (λ (l : LineHeld). l .rest) e ∙ held-all (drop at block) (take (r .held) line) (sym (ap (λ (l : LineHeld). l .ends) e) ∙ q)
 
+    pub reached-held : TakesLines r₀ s₀ links₀ line₀ block from (holding r h) s links line′ (h .next) (take written out)
+    reached-held printed = lines-held false q printed ∙ sym (ap (foldl (fed turn) (readerIn (holding r h) s links line′ (printed ++ take written out))) all)
+
+    pub reached-all : length block ≤ h .next
+    reached-all = omega (arith, ap length all, length-drop (h .next) block)
+
+  -- it ends there, and is taken
   pub reached-more : h .ends ≡ true → h .next ≤ length block → at < h .next
       → (x : Code·Reader) (s′ : Session) (links′ part : List ℕ) → length part ≡ length (take (length out - written) (drop written out)) → TakesLine (holding r h) s links line′ x s′ links′ part
       → (k : ℕ) → k ≡ min (x .written) (length (back out written part) - written)
       → Reached r₀ s₀ links₀ line₀ block from x s′ links′ line′ (h .next) (back out written part) (written + k)
-  reached-more q w on x s′ links′ part l t k m = record {
-    taken = λ printed.
-        lines-more r₀ s₀ links₀ line₀ block from r s links line at (take written out) (z .taken) h line′ e q links′ part x s′ t printed
-        ∙ sym (ap (λ (o : List ℕ). foldl (fed turn) (readerIn x s′ links′ line′ (printed ++ o)) (drop (h .next) block)) (back-taken out written (z .room) part l (x .written) k m));
-    within = w;
-    room = omega (arith, m, back-length out written (z .room) part l, z .room);
-    onward = omega (arith, on, z .onward);
-    begun = inr (omega (arith, on, z .onward));
-  }
+  reached-more q w on x s′ links′ part l t k m =
+      let after : List ℕ → Reader Dialogue = λ o. foldl (fed turn) (readerIn x s′ links′ line′ o) (drop (h .next) block) in
+      record {
+        taken = λ printed.
+            lines-held true q printed
+            ∙ ap (λ (y : Reader Dialogue). foldl (fed turn) y (drop (h .next) block)) (sym (t (printed ++ take written out)))
+            ∙ ap after (append-assoc printed (take written out) (take (x .written) part))
+            ∙ sym (ap (λ (o : List ℕ). after (printed ++ o)) (back-taken out written (z .room) part l (x .written) k m));
+        within = w;
+        room = omega (arith, m, back-length out written (z .room) part l, z .room);
+        onward = omega (arith, on, z .onward);
+        begun = inr (omega (arith, on, z .onward));
+      }
 
 -- the lent slices are long enough, and as long as they were
 pub record Lengths (line₀ numbers₀ links₀ out₀ line numbers links out : List ℕ) : Type 0 where

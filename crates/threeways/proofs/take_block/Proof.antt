@@ -4,22 +4,19 @@ use mathlib.Core.List.{[]}
 use native.Mathlib.Omega.{arith}
 use lib.ListN.{length}
 use Rattle.collect.specs.Answering.{readerIn}
-use Rattle.dialogue.proofs.Blocks.{Taking, taking-end, taking-lines, Lengths, lengths-begin, lengths-again}
+use Rattle.dialogue.proofs.Blocks.{StandsAt, stands-end, stands-lines, Lengths, lengths-begin, lengths-again}
 use borrow.Author.Needs.{needs}
 use Rattle.threeways.proofs.take_block.Statement.{statement}
 use Rattle.threeways.proofs.take_block.Tie as tie
 
 abbrev Inv-loop : tie.InvT-loop
 Inv-loop block line₀ numbers₀ links₀ out₀ reader₀ session₀ from₀ line numbers links out reader session from =
-    Taking (readerIn reader₀ session₀ links₀ line₀ []) block reader session links line from × (from ≤ length block) × Lengths line₀ numbers₀ links₀ out₀ line numbers links out
+    StandsAt (readerIn reader₀ session₀ links₀ line₀ []) block reader session links line from × (from ≤ length block) × Lengths line₀ numbers₀ links₀ out₀ line numbers links out
 
 abbrev μ-loop : tie.MeasureT-loop
 μ-loop block line₀ numbers₀ links₀ out₀ reader₀ session₀ from₀ line numbers links out reader session from = length block - from
 
--- the start, the loop's body, and where the lines are taken
-abbrev start : tie.In-loop Inv-loop μ-loop → tie.Start Inv-loop μ-loop
-start c = c .before .before .before .before .before .before .before
-
+-- the loop's body, and where the lines are taken
 abbrev body : tie.After-take-lines Inv-loop μ-loop → tie.In-loop Inv-loop μ-loop
 body c = c .before .before .before .before .before
 
@@ -31,7 +28,7 @@ loop-holds c =
     let start = c .before .before .before .before .before in
     let a = start .args in
     let p = start .pre in
-    (refl, omega arith, lengths-begin (a .line .now) (a .numbers .now) (a .links .now) (a .out .now) (p .0) (p .1) (p .2) (p .3))
+    (record { leads = refl }, omega arith, lengths-begin (a .line .now) (a .numbers .now) (a .links .now) (a .out .now) (p .0) (p .1) (p .2) (p .3))
 
 take-lines-requires : tie.Need-take-lines-requires Inv-loop μ-loop
 take-lines-requires c κs = search needs
@@ -52,10 +49,9 @@ loop-again : tie.Need-loop-again Inv-loop μ-loop
 loop-again c =
     let at = at-take c in
     let t = at .take-lines in
-    let a = start (body at) .args in
     let l = body at .before .loop in
     let k = t .kept .1 .1 .1 .1 in (
-      taking-lines (readerIn (a .r) (a .s) (a .links .now) (a .line .now) []) (a .block .now) (l .reader) (l .session) (l .links) (l .line) (l .from) (l .inv .0) (t .result .reader) (t .result .session) _ _ (t .result .next) _ (t .ensures .0),
+      stands-lines (l .inv .0) (t .result .reader) (t .result .session) _ _ (t .result .next) _ (t .ensures .0),
       t .ensures .1 .0,
       lengths-again (l .inv .2) _ _ _ _ (k .0) (k .1 .0) (k .1 .1 .0) (k .1 .1 .1 .0),
     )
@@ -74,9 +70,8 @@ same-length-4 c = search needs
 
 returns : tie.Need-returns Inv-loop μ-loop
 returns c =
-    let a = c .before .before .before .before .before .before .before .args in
     let l = c .before .loop in
-    taking-end (readerIn (a .r) (a .s) (a .links .now) (a .line .now) []) (a .block .now) (l .reader) (l .session) (l .links) (l .line) (l .from) (l .inv .0) (c .loop-test .left)
+    stands-end (l .inv .0) (c .loop-test .left)
 
 pub take-block-spec : {M : Type 1} → statement M
 take-block-spec =
