@@ -1,13 +1,13 @@
 -- Laws of a line that ends and has what it asks of the session, and of a block that is taken line by line, its replies one after another
 -- in a slice: where it stands between two lines, and where it ends.
-use mathlib.Core.Path.{_≡_, refl, sym, ap, _∙_}
+use mathlib.Core.Path.{_≡_, refl, sym, ap, _∙_, subst₂}
 use mathlib.Core.Logic.{_⊎_, inl, inr}
 use mathlib.Core.Bool.{Bool, true, false, cond}
 use mathlib.Core.List.{List, [], _++_, foldl, append-assoc, append-nil}
 use Prim.Native.Nat.{ℕ, min, _+_, _-_, _≤_, _<_}
 use native.Mathlib.Omega.{arith}
 use lib.ListN.{length, take, drop, drop-of-length-le, length-take, length-drop, length-append}
-use lib.Seq.{take-append-add}
+use lib.Seq.{take-append-add, take-at}
 use Rattle.session.specs.declared.Session.{Session}
 use Rattle.collect.specs.declared.Request.{Request}
 use Rattle.collect.specs.declared.Request.the-variants.{Nothing}
@@ -18,7 +18,7 @@ use Rattle.transcript.specs.Transcript.{Reader, unprinted, withLine, ended, fed
 use Rattle.collect.specs.Dialogue.{Dialogue, turn}
 use Rattle.collect.specs.Answering.{requested, readerIn, served, Ends}
 use Rattle.serve.specs.Serving.{Serves}
-use Rattle.dialogue.specs.Taking.{TakesLine, TakesLines}
+use Rattle.dialogue.specs.Taking.{TakesLines}
 use Rattle.transcript.proofs.Transcripts.{line-by-line}
 use Rattle.transcript.proofs.Printing.{unprinted-foldl}
 use Rattle.transcript.proofs.Holding.{held-all}
@@ -41,42 +41,90 @@ module _ {start : Reader Dialogue} {block : List ℕ} {r : Code·Reader} {s : Se
   stands-lines x s′ links′ line′ next output t =
       record { leads = at .leads ∙ ap unprinted (t []) ∙ unprinted-foldl turn (readerIn x s′ links′ line′ output) (drop next block) }
 
--- the line that is held ends
-module _ (r : Code·Reader) (s : Session) (links line : List ℕ) (e : Ending) (numbers links′ out : List ℕ) (ends : Ends r links line e numbers links′ out) where
-  -- it asks nothing of the session
-  pub line-silent : e .request ≡ Nothing → TakesLine r s links line (e .reader) s links′ out
-  unfolding requested
-  line-silent n printed =
-      sym (ap (λ (y : Request). served y numbers (take (e .reader .written) out) (readerIn (e .reader) s links′ line printed)) n)
-      ∙ ends s printed
-
-  -- it has what it asks of the session
-  pub line-served : (q : Request) (x : Code·Reader) (s′ : Session) (out′ : List ℕ) → e .request ≡ q → Serves q numbers (e .reader) s links′ x s′ out′ → TakesLine r s links line x s′ links′ out′
-  line-served q x s′ out′ n serves printed =
-      serves line (take (e .reader .written) out) printed
-      ∙ sym (ap (λ (y : Request). served y numbers (take (e .reader .written) out) (readerIn (e .reader) s links′ line printed)) n)
-      ∙ ends s printed
+-- the line that is held ends: what is known after it, the session and its reply, whatever was printed before
+abbrev TakesLine : Code·Reader → Session → List ℕ → List ℕ → Code·Reader → Session → List ℕ → List ℕ → Type 0
+TakesLine r s links line x s′ links′ out = (printed : List ℕ) → readerIn x s′ links′ line (printed ++ take (x .written) out) ≡ ended turn (readerIn r s links line printed)
 
 -- a slice whose part from w on was lent, and has come back as p
 abbrev pub back : List ℕ → ℕ → List ℕ → List ℕ
 back o w p = take w o ++ (p ++ drop (length o - w) (drop w o))
 
-module _ (o : List ℕ) (w : ℕ) (h : w ≤ length o) (p : List ℕ) (q : length p ≡ length (take (length o - w) (drop w o))) where
-  back-end : back o w p ≡ take w o ++ p
-  back-end =
-      ap (λ (l : List ℕ). take w o ++ (p ++ l)) (drop-of-length-le (drop w o) {i = length o - w} (omega (arith, length-drop w o)))
-      ∙ ap (λ (l : List ℕ). take w o ++ l) (append-nil p)
+back-end : (o : List ℕ) (w : ℕ) → w ≤ length o → (p : List ℕ) → back o w p ≡ take w o ++ p
+back-end o w h p =
+    ap (λ (l : List ℕ). take w o ++ (p ++ l)) (drop-of-length-le (drop w o) {i = length o - w} (omega (arith, length-drop w o)))
+    ∙ ap (λ (l : List ℕ). take w o ++ l) (append-nil p)
 
+module _ (o : List ℕ) (w : ℕ) (h : w ≤ length o) (p : List ℕ) (q : length p ≡ length (take (length o - w) (drop w o))) where
   pub back-length : length (back o w p) ≡ length o
-  back-length = ap length back-end ∙ omega (arith, length-append (take w o) p, length-take w o, q, length-take (length o - w) (drop w o), length-drop w o)
+  back-length = ap length (back-end o w h p) ∙ omega (arith, length-append (take w o) p, length-take w o, q, length-take (length o - w) (drop w o), length-drop w o)
 
   -- the first k bytes of what came back, after what was written before
   pub back-taken : (k r : ℕ) → r ≡ min k (length (back o w p) - w) → take (w + r) (back o w p) ≡ take w o ++ take k p
   back-taken k r e =
-      ap (take (w + r)) back-end
+      ap (take (w + r)) (back-end o w h p)
       ∙ ap (λ (m : ℕ). take (m + r) (take w o ++ p)) (let z : w ≡ length (take w o) = omega (arith, length-take w o) in z)
       ∙ take-append-add (take w o) p r
       ∙ ap (λ (l : List ℕ). take w o ++ l) (least-take {r = r} k p (omega (arith, e, back-length, q, length-take (length o - w) (drop w o), length-drop w o)))
+
+  -- the part is lent again, and comes back as p′
+  module _ (p′ : List ℕ) (q′ : length p′ ≡ length (take (length (back o w p) - w) (drop w (back o w p)))) where
+    back-again : back (back o w p) w p′ ≡ back o w p′
+    back-again =
+        back-end (back o w p) w (omega (arith, back-length)) p′
+        ∙ ap (λ (l : List ℕ). l ++ p′) (ap (take w) (back-end o w h p) ∙ take-at (take w o) p w (omega (arith, length-take w o)))
+        ∙ sym (back-end o w h p′)
+
+    again-length : length p′ ≡ length (take (length o - w) (drop w o))
+    again-length =
+        omega (
+          arith,
+          q′,
+          back-length,
+          length-take (length (back o w p) - w) (drop w (back o w p)),
+          length-drop w (back o w p),
+          length-take (length o - w) (drop w o),
+          length-drop w o,
+        )
+
+-- a line is taken, with its reply in the part of a slice from w on: the slice was o, and is n
+pub record LineTaken (r : Code·Reader) (s : Session) (links line : List ℕ) (x : Code·Reader) (s′ : Session) (links′ o : List ℕ) (w : ℕ) (n : List ℕ) : Type 0 where
+  pub part : List ℕ
+  pub long : length part ≡ length (take (length o - w) (drop w o))
+  pub slice : n ≡ back o w part
+  pub takes : TakesLine r s links line x s′ links′ part
+
+-- the line that is held ends, its own reply in the part from w on
+module _ (r : Code·Reader) (s : Session) (links line : List ℕ) (e : Ending) (numbers links′ o : List ℕ) (w : ℕ) (h : w ≤ length o) (p : List ℕ)
+    (ends : Ends r links line e numbers links′ p) (q : length p ≡ length (take (length o - w) (drop w o))) where
+  -- it asks nothing of the session
+  pub taken-silent : e .request ≡ Nothing → (x : Code·Reader) (s′ : Session) (n : List ℕ) → n ≡ back o w p → x ≡ e .reader → s′ ≡ s → LineTaken r s links line x s′ links′ o w n
+  unfolding requested
+  taken-silent z x s′ n i j k = record {
+    part = p;
+    long = q;
+    slice = i;
+    takes =
+        subst₂ (λ (y : Code·Reader) (t : Session). TakesLine r s links line y t links′ p) (sym j) (sym k)
+        (λ printed. sym (ap (λ (y : Request). served y numbers (take (e .reader .written) p) (readerIn (e .reader) s links′ line printed)) z) ∙ ends s printed);
+  }
+
+  -- it has what it asks of the session, in the same part
+  pub taken-served : (y : Request) (x : Code·Reader) (s′ : Session) (p′ : List ℕ) → e .request ≡ y → length p′ ≡ length (take (length (back o w p) - w) (drop w (back o w p)))
+      → Serves y numbers (e .reader) s links′ x s′ p′ → (x′ : Code·Reader) (s″ : Session) (n : List ℕ) → n ≡ back (back o w p) w p′ → x′ ≡ x → s″ ≡ s′ → LineTaken r s links line x′ s″ links′ o w n
+  taken-served y x s′ p′ z q′ serves x′ s″ n i j k = record {
+    part = p′;
+    long = again-length o w h p q p′ q′;
+    slice = i ∙ back-again o w h p q p′ q′;
+    takes =
+        subst₂ (λ (v : Code·Reader) (t : Session). TakesLine r s links line v t links′ p′) (sym j) (sym k)
+        (λ printed. serves line (take (e .reader .written) p) printed
+        ∙ sym (ap (λ (v : Request). served v numbers (take (e .reader .written) p) (readerIn (e .reader) s links′ line printed)) z)
+        ∙ ends s printed);
+  }
+
+pub taken-length : {r : Code·Reader} {s : Session} {links line : List ℕ} {x : Code·Reader} {s′ : Session} {links′ o : List ℕ} {w : ℕ} {n : List ℕ} → w ≤ length o
+    → LineTaken r s links line x s′ links′ o w n → length n ≡ length o
+taken-length {o = o} {w = w} h t = ap length (t .slice) ∙ back-length o w h (t .part) (t .long)
 
 -- where the lines of a block have been taken to: what is known there, the place, and the replies at the start of a slice
 pub record Reached (r₀ : Code·Reader) (s₀ : Session) (links₀ line₀ block : List ℕ) (from : ℕ) (r : Code·Reader) (s : Session) (links line : List ℕ) (next : ℕ) (out : List ℕ) (written : ℕ) : Type 0 where
@@ -97,7 +145,7 @@ reached-begin r s links line block from out h = record {
 }
 
 -- what is known with the bytes that a block leaves of a line
-abbrev holding : Code·Reader → Held → Code·Reader
+abbrev pub holding : Code·Reader → Held → Code·Reader
 holding r h = record { kept = r .kept; number = r .number; held = h .held; written = r .written; stopped = r .stopped }
 
 -- the line goes on in the block
@@ -126,20 +174,20 @@ module _ {r₀ : Code·Reader} {s₀ : Session} {links₀ line₀ block : List �
     reached-all = omega (arith, ap length all, length-drop (h .next) block)
 
   -- it ends there, and is taken
-  pub reached-more : h .ends ≡ true → h .next ≤ length block → at < h .next
-      → (x : Code·Reader) (s′ : Session) (links′ part : List ℕ) → length part ≡ length (take (length out - written) (drop written out)) → TakesLine (holding r h) s links line′ x s′ links′ part
-      → (k : ℕ) → k ≡ min (x .written) (length (back out written part) - written)
-      → Reached r₀ s₀ links₀ line₀ block from x s′ links′ line′ (h .next) (back out written part) (written + k)
-  reached-more q w on x s′ links′ part l t k m =
+  pub reached-more : h .ends ≡ true → h .next ≤ length block → at < h .next → (x : Code·Reader) (s′ : Session) (links′ n : List ℕ)
+      → LineTaken (holding r h) s links line′ x s′ links′ out written n → (k : ℕ) → k ≡ min (x .written) (length n - written)
+      → Reached r₀ s₀ links₀ line₀ block from x s′ links′ line′ (h .next) n (written + k)
+  reached-more q w on x s′ links′ n t k m =
       let after : List ℕ → Reader Dialogue = λ o. foldl (fed turn) (readerIn x s′ links′ line′ o) (drop (h .next) block) in
+      let m′ = m ∙ ap (λ (l : List ℕ). min (x .written) (length l - written)) (t .slice) in
       record {
         taken = λ printed.
             lines-held true q printed
-            ∙ ap (λ (y : Reader Dialogue). foldl (fed turn) y (drop (h .next) block)) (sym (t (printed ++ take written out)))
-            ∙ ap after (append-assoc printed (take written out) (take (x .written) part))
-            ∙ sym (ap (λ (o : List ℕ). after (printed ++ o)) (back-taken out written (z .room) part l (x .written) k m));
+            ∙ ap (λ (y : Reader Dialogue). foldl (fed turn) y (drop (h .next) block)) (sym (t .takes (printed ++ take written out)))
+            ∙ ap after (append-assoc printed (take written out) (take (x .written) (t .part)))
+            ∙ sym (ap (λ (o : List ℕ). after (printed ++ o)) (ap (take (written + k)) (t .slice) ∙ back-taken out written (z .room) (t .part) (t .long) (x .written) k m′));
         within = w;
-        room = omega (arith, m, back-length out written (z .room) part l, z .room);
+        room = omega (arith, m, taken-length (z .room) t, z .room);
         onward = omega (arith, on, z .onward);
         begun = inr (omega (arith, on, z .onward));
       }

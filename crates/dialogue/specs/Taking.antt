@@ -1,18 +1,14 @@
--- What the contracts over lines and blocks cite: one line taken, the lines of a block from a place on, and the whole of it.
+-- What the contracts over blocks cite: the lines of a block taken from a place on, and the whole of it.
 -- The bytes of a block, fed one after another, say what it leads to.
 use mathlib.Core.Path.{_≡_}
 use mathlib.Core.List.{List, [], _++_, foldl}
 use Prim.Native.Nat.{ℕ}
-use lib.ListN.{take, drop}
+use lib.ListN.{drop}
 use Rattle.session.specs.declared.Session.{Session}
-use Rattle.transcript.specs.Transcript.{unprinted, ended, fed}
+use Rattle.transcript.specs.Transcript.{unprinted, fed}
 use Rattle.collect.specs.declared.Reader.{Reader}
 use Rattle.collect.specs.Dialogue.{turn}
 use Rattle.collect.specs.Answering.{readerIn}
-
--- the line that is held ends: what is known after it, the session and its reply, whatever was printed before
-abbrev pub TakesLine : Reader → Session → List ℕ → List ℕ → Reader → Session → List ℕ → List ℕ → Type 0
-TakesLine r s links line x s′ links′ out = (printed : List ℕ) → readerIn x s′ links′ line (printed ++ take (x .written) out) ≡ ended turn (readerIn r s links line printed)
 
 -- the lines of a block are taken from a place on: what is known where they end, with what they print, leads on as what was known before
 abbrev pub TakesLines : Reader → Session → List ℕ → List ℕ → List ℕ → ℕ → Reader → Session → List ℕ → List ℕ → ℕ → List ℕ → Type 0

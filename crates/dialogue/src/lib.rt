@@ -2,12 +2,11 @@
 // The collected links stand at the start of another, two numbers each.
 use collect::Reader;
 use collect::Request;
-use serve::Called;
 use session::Session;
 ghost use mathlib.Core.Path.{_≡_};
 ghost use Prim.Native.Nat.{_≤_, _<_};
 ghost use lib.ListN.{length, take};
-ghost use Rattle.dialogue.specs.Taking.{TakesLine, TakesLines};
+ghost use Rattle.dialogue.specs.Taking.{TakesLines};
 
 // The bytes of a reply.
 pub fn reply(out: &[u8], written: usize) -> &[u8]
@@ -15,32 +14,6 @@ pub fn reply(out: &[u8], written: usize) -> &[u8]
 {
     let count = transcript::least(written, out.len());
     &out[..count]
-}
-
-// The line that is held ends, and has what it asks of the session: what is known after it, the session, and its reply.
-fn take_line(
-    r: Reader,
-    s: Session,
-    line: &[u8],
-    numbers: &mut [u16],
-    links: &mut [u16],
-    out: &mut [u8],
-) -> Called
-    requires { ⌜ (3072 ≤ length (now numbers)) × (length (now links) ≡ 8192) × (8192 ≤ length (now out)) ⌝ }
-    ensures { λ c. ⌜ TakesLine r s (now (links .entry)) (now (line .entry)) (c .reader) (c .session) (now (links .exit)) (now (out .exit)) ⌝ }
-{
-    let ending = collect::end_line(r, line, numbers, links, out);
-    let reader = ending.reader;
-    let session = s;
-    let request = ending.request;
-    match request {
-        Request::Nothing => Called { reader, session },
-        Request::Walk(switch, tree) => {
-            let reader = serve::serve_walk(reader, s, switch, tree, out);
-            Called { reader, session }
-        }
-        Request::Call(call) => serve::serve_call(reader, s, call, numbers, links, out),
-    }
 }
 
 // What is known where the lines of a block have been taken, the session there, the place in the block, and the count of the bytes of
@@ -81,9 +54,27 @@ pub fn take_lines(
         if !h.ends {
             break;
         }
-        let called = take_line(reader, session, line, numbers, links, &mut out[written..]);
-        reader = called.reader;
-        session = called.session;
+        let ending = collect::end_line(reader, line, numbers, links, &mut out[written..]);
+        reader = ending.reader;
+        let request = ending.request;
+        match request {
+            Request::Nothing => {}
+            Request::Walk(switch, tree) => {
+                reader = serve::serve_walk(reader, session, switch, tree, &mut out[written..]);
+            }
+            Request::Call(call) => {
+                let called = serve::serve_call(
+                    reader,
+                    session,
+                    call,
+                    numbers,
+                    links,
+                    &mut out[written..],
+                );
+                reader = called.reader;
+                session = called.session;
+            }
+        }
         written += transcript::least(reader.written, out.len() - written);
     }
     Taken {

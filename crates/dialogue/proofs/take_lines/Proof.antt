@@ -1,12 +1,10 @@
-use Prim.Native.Nat.{ℕ, _-_}
-use mathlib.Core.Path.{_≡_}
+use Prim.Native.Nat.{_-_}
 use mathlib.Core.Logic.{⊎-elim}
-use mathlib.Core.List.{List}
 use native.Mathlib.Omega.{arith}
-use lib.ListN.{length, take, drop}
+use lib.ListN.{length}
 use borrow.Author.Tests.{not-false, not-true}
 use borrow.Author.Needs.{needs}
-use Rattle.dialogue.proofs.Blocks.{back, back-length, Reached, reached-begin, reached-held, reached-all, reached-more, Lengths, lengths-begin, lengths-again}
+use Rattle.dialogue.proofs.Blocks.{Reached, reached-begin, reached-held, reached-all, reached-more, holding, LineTaken, taken-silent, taken-served, taken-length, Lengths, lengths-begin, lengths-again}
 use Rattle.dialogue.proofs.take_lines.Statement.{statement}
 use Rattle.dialogue.proofs.take_lines.Tie as tie
 
@@ -17,21 +15,21 @@ Inv-loop block from line₀ numbers₀ links₀ out₀ reader₀ session₀ next
 abbrev μ-loop : tie.MeasureT-loop
 μ-loop block from line₀ numbers₀ links₀ out₀ reader₀ session₀ next₀ written₀ line numbers links out reader session next written = length block - next
 
--- the loop's body, where the line is held, and where it is taken; and the start
+-- the loop's body, where the line is held, where it ends, and where it has what it asks of the session; and the start
 abbrev start : tie.In-loop Inv-loop μ-loop → tie.Start Inv-loop μ-loop
 start c = c .before .before .before .before .before .before .before
 
 abbrev body : tie.After-hold-line Inv-loop μ-loop → tie.In-loop Inv-loop μ-loop
 body c = c .before .before .before
 
-abbrev at-end : tie.After-take-line Inv-loop μ-loop → tie.Else2 Inv-loop μ-loop
-at-end c = c .before .before .before .before .before
+abbrev at-ends : tie.After-end-line Inv-loop μ-loop → tie.Else2 Inv-loop μ-loop
+at-ends c = c .before .before .before .before .before
 
-abbrev at-hold : tie.After-take-line Inv-loop μ-loop → tie.After-hold-line Inv-loop μ-loop
-at-hold c = at-end c .before .before .before .before
+abbrev at-hold : tie.After-end-line Inv-loop μ-loop → tie.After-hold-line Inv-loop μ-loop
+at-hold c = at-ends c .before .before .before .before
 
-abbrev at-take : tie.After-session Inv-loop μ-loop → tie.After-take-line Inv-loop μ-loop
-at-take c = c .before .before .before .before .before .before .before .before
+abbrev at-end : tie.At-match-came Inv-loop μ-loop → tie.After-end-line Inv-loop μ-loop
+at-end c = c .before .before .before .before .before .before .before .before
 
 loop-holds : tie.Need-loop-holds Inv-loop μ-loop
 loop-holds c =
@@ -42,68 +40,113 @@ loop-holds c =
       lengths-begin (a .line .now) (a .numbers .now) (a .links .now) (a .out .now) (p .1) (p .2) (p .3) (p .4),
     )
 
--- the part of the replies' slice that a line's reply is written into, as it came back; the slice is as long as it was
-abbrev part : tie.After-take-line Inv-loop μ-loop → List ℕ
-part t = t .take-line .last .1 .1 .1 .1 .1 .0
-
-abbrev part-length : (t : tie.After-take-line Inv-loop μ-loop) → (let l = body (at-hold t) .before .loop in length (part t) ≡ length (take (length (l .out) - l .written) (drop (l .written) (l .out))))
-part-length t = t .take-line .kept .1 .1 .1 .1 .1 .0
-
-whole : (t : tie.After-take-line Inv-loop μ-loop) → (let l = body (at-hold t) .before .loop in length (back (l .out) (l .written) (part t)) ≡ length (l .out))
-whole t =
-    let l = body (at-hold t) .before .loop in
-    back-length (l .out) (l .written) (l .inv .0 .room) (part t) (part-length t)
-
 sub-if1 : tie.Need-sub-if1 Inv-loop μ-loop
 sub-if1 c = search needs
 
 hold-line-requires : tie.Need-hold-line-requires Inv-loop μ-loop
 hold-line-requires c κs = search needs
 
-sub-take-line : tie.Need-sub-take-line Inv-loop μ-loop
-sub-take-line c = search needs
+sub-end-line : tie.Need-sub-end-line Inv-loop μ-loop
+sub-end-line c = search needs
 
-part-take-line-start : tie.Need-part-take-line-start Inv-loop μ-loop
-part-take-line-start c = search needs
+part-end-line-start : tie.Need-part-end-line-start Inv-loop μ-loop
+part-end-line-start c = search needs
 
-part-take-line-end : tie.Need-part-take-line-end Inv-loop μ-loop
-part-take-line-end c = search needs
+part-end-line-end : tie.Need-part-end-line-end Inv-loop μ-loop
+part-end-line-end c = search needs
 
-take-line-requires : tie.Need-take-line-requires Inv-loop μ-loop
-take-line-requires c κs = search needs
+end-line-requires : tie.Need-end-line-requires Inv-loop μ-loop
+end-line-requires c κs = search needs
+
+enum-told : tie.Need-enum-told Inv-loop μ-loop
+enum-told c = search needs
+
+enum-known-request : tie.Need-enum-known-request Inv-loop μ-loop
+enum-known-request c = search needs
+
+sub-serve-walk : tie.Need-sub-serve-walk Inv-loop μ-loop
+sub-serve-walk c = search needs
+
+part-serve-walk-start : tie.Need-part-serve-walk-start Inv-loop μ-loop
+part-serve-walk-start c = search needs
+
+part-serve-walk-end : tie.Need-part-serve-walk-end Inv-loop μ-loop
+part-serve-walk-end c = search needs
+
+serve-walk-requires : tie.Need-serve-walk-requires Inv-loop μ-loop
+serve-walk-requires c κs = search needs
+
+enum-known-request-2 : tie.Need-enum-known-request-2 Inv-loop μ-loop
+enum-known-request-2 c = search needs
+
+sub-serve-call : tie.Need-sub-serve-call Inv-loop μ-loop
+sub-serve-call c = search needs
+
+part-serve-call-start : tie.Need-part-serve-call-start Inv-loop μ-loop
+part-serve-call-start c = search needs
+
+part-serve-call-end : tie.Need-part-serve-call-end Inv-loop μ-loop
+part-serve-call-end c = search needs
+
+serve-call-requires : tie.Need-serve-call-requires Inv-loop μ-loop
+serve-call-requires c κs = search needs
+
+-- the line is taken, whatever it asks of the session
+line-taken : (c : tie.At-match-came Inv-loop μ-loop)
+    → (let e = at-end c .end-line in let h = at-hold (at-end c) .hold-line in let l = body (at-hold (at-end c)) .before .loop in let m = c .match in
+    LineTaken (holding (l .reader) (h .result)) (l .session) (l .links) (h .last .0) (m .reader) (m .session) (e .last .1 .1 .1 .0) (l .out) (l .written) (m .out))
+line-taken c =
+    let e = at-end c .end-line in
+    let h = at-hold (at-end c) .hold-line in
+    let l = body (at-hold (at-end c)) .before .loop in
+    let m = c .match in
+    let r = holding (l .reader) (h .result) in
+    let part = e .last .1 .1 .1 .1 .0 in
+    let long = e .kept .1 .1 .1 .1 .0 in
+    let silent = taken-silent r (l .session) (l .links) (h .last .0) (e .result) _ _ (l .out) (l .written) (l .inv .0 .room) part (e .ensures) long in
+    let served = taken-served r (l .session) (l .links) (h .last .0) (e .result) _ _ (l .out) (l .written) (l .inv .0 .room) part (e .ensures) long in
+    ⊎-elim
+    (λ w. silent (w .1 .given .1) (m .reader) (m .session) (m .out) (w .2) (w .3) (w .4))
+    (⊎-elim
+    (λ w.
+    let x = w .4 in
+    served _ (x .result) (l .session) (x .last .1 .1 .1 .1 .0) (w .1 .given .1) (x .kept .1 .1 .1 .1 .0) (x .ensures _ _) (m .reader) (m .session) (m .out) (w .7) (w .8) (w .9))
+    (λ w.
+    let x = w .6 in
+    served _ (x .result .reader) (x .result .session) (x .last .1 .1 .1 .1 .1 .0) (w .1 .given .1) (x .kept .1 .1 .1 .1 .1 .0) (x .ensures) (m .reader) (m .session) (m .out) (w .11) (w .12) (w .13)))
+    (m .came)
 
 sub-least : tie.Need-sub-least Inv-loop μ-loop
 sub-least c =
-    let t = at-take c in
-    let l = body (at-hold t) .before .loop in
-    omega (arith, l .inv .0 .room, whole t)
+    let l = body (at-hold (at-end c)) .before .loop in
+    omega (arith, l .inv .0 .room, taken-length (l .inv .0 .room) (line-taken c))
 
 least-requires : tie.Need-least-requires Inv-loop μ-loop
 least-requires c κs = search needs
 
 add-written : tie.Need-add-written Inv-loop μ-loop
 add-written c =
-    let t = at-take (c .before) in
-    let l = body (at-hold t) .before .loop in
-    omega (arith, c .least .ensures, l .inv .0 .room, l .inv .1 .out-same, whole t, start (body (at-hold t)) .good .1 .1 .1 .1 .1 .1 .1 .0 .0)
+    let in-loop = body (at-hold (at-end (c .before))) in
+    let l = in-loop .before .loop in
+    omega (arith, c .least .ensures, l .inv .0 .room, l .inv .1 .out-same, taken-length (l .inv .0 .room) (line-taken (c .before)), start in-loop .good .1 .1 .1 .1 .1 .1 .1 .0 .0)
 
 loop-less : tie.Need-loop-less Inv-loop μ-loop
 loop-less c =
-    let t = at-take (c .before) in
-    let h = at-hold t .hold-line in
-    omega (arith, h .ensures .1 .1 (not-false _ (at-end t .if2 .left)), h .ensures .1 .0, body (at-hold t) .loop-test .taken)
+    let e = at-end (c .before) in
+    let h = at-hold e .hold-line in
+    omega (arith, h .ensures .1 .1 (not-false _ (at-ends e .if2 .left)), h .ensures .1 .0, body (at-hold e) .loop-test .taken)
 
 loop-again : tie.Need-loop-again Inv-loop μ-loop
 loop-again c =
-    let t = at-take (c .before) in
-    let h = at-hold t .hold-line in
-    let l = body (at-hold t) .before .loop in
-    let ends = not-false _ (at-end t .if2 .left) in
-    let e = t .take-line in
-    let kept = e .kept .1 .1 .1 in
-    let more = reached-more (l .inv .0) (h .result) _ (h .ensures .0) ends (h .ensures .1 .0) (h .ensures .1 .1 ends) in (
-      more (e .result .reader) (e .result .session) _ (part t) (part-length t) (e .ensures) (c .least .result) (c .least .ensures),
-      lengths-again (l .inv .1) _ _ _ _ (h .kept .0) (kept .0) (kept .1 .0) (whole t),
+    let e = at-end (c .before) in
+    let h = at-hold e .hold-line in
+    let l = body (at-hold e) .before .loop in
+    let m = c .before .match in
+    let ends = not-false _ (at-ends e .if2 .left) in
+    let t = line-taken (c .before) in
+    let kept = e .end-line .kept .1 .1 in (
+      reached-more (l .inv .0) (h .result) _ (h .ensures .0) ends (h .ensures .1 .0) (h .ensures .1 .1 ends) (m .reader) (m .session) _ (m .out) t (c .least .result) (c .least .ensures),
+      lengths-again (l .inv .1) _ _ _ _ (h .kept .0) (kept .0) (kept .1 .0) (taken-length (l .inv .0 .room) t),
     )
 
 same-length : tie.Need-same-length Inv-loop μ-loop
@@ -169,10 +212,21 @@ take-lines-spec =
     loop-holds
     sub-if1
     hold-line-requires
-    sub-take-line
-    part-take-line-start
-    part-take-line-end
-    take-line-requires
+    sub-end-line
+    part-end-line-start
+    part-end-line-end
+    end-line-requires
+    enum-told
+    enum-known-request
+    sub-serve-walk
+    part-serve-walk-start
+    part-serve-walk-end
+    serve-walk-requires
+    enum-known-request-2
+    sub-serve-call
+    part-serve-call-start
+    part-serve-call-end
+    serve-call-requires
     sub-least
     least-requires
     add-written
