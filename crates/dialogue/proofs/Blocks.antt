@@ -1,192 +1,221 @@
--- Laws of a block that is taken line by line, its replies one after another in a slice: where it stands between two lines, and where it
--- ends. What was printed before changes nothing but itself.
-use mathlib.Core.Path.{_≡_, refl, sym, ap, ap₂, _∙_}
-use mathlib.Core.Bool.{Bool, true, false, _||_, cond}
-use mathlib.Core.List.{List, [], _∷_, _++_, foldl, append-assoc, append-nil}
-use Prim.Native.Nat.{ℕ, suc, min, _+_, _-_, _≤_}
+-- Laws of a line that ends and has what it asks of the session, and of a block that is taken line by line, its replies one after another
+-- in a slice: where it stands between two lines, and where it ends.
+use mathlib.Core.Path.{_≡_, refl, sym, ap, _∙_, subst₂}
+use mathlib.Core.Logic.{_⊎_, inl, inr}
+use mathlib.Core.Bool.{Bool, true, false, cond}
+use mathlib.Core.List.{List, [], _++_, foldl, append-assoc, append-nil}
+use Prim.Native.Nat.{ℕ, min, _+_, _-_, _≤_, _<_}
 use native.Mathlib.Omega.{arith}
-use lib.Dec.{eqb, ltb}
 use lib.ListN.{length, take, drop, drop-of-length-le, length-take, length-drop, length-append}
 use lib.Seq.{take-append-add, take-at}
-use Rattle.mondschein.proofs.Logic.{clash}
 use Rattle.session.specs.declared.Session.{Session}
-use Rattle.dialogue.specs.declared.Request.{Request}
-use Rattle.dialogue.specs.declared.Request.the-variants.{Nothing}
-use Rattle.dialogue.specs.declared.Reader.{Reader as Code·Reader}
-use Rattle.dialogue.specs.declared.Ending.{Ending}
-use Rattle.dialogue.specs.declared.Held.{Held}
-use Rattle.dialogue.specs.Transcript.{Turn, Reader, unprinted, withLine, ended, fed, LineHeld, heldLine}
-use Rattle.dialogue.specs.Dialogue.{Dialogue, turn}
-use Rattle.dialogue.specs.Answering.{requested, readerIn, served, Ends, Serves, heldIn, TakesLines}
-use Rattle.dialogue.proofs.Transcripts.{line-by-line}
-use Rattle.dialogue.proofs.Replying.{least-take}
-
--- what is known with more printed before
-abbrev preceded : {A : Type 0} → List ℕ → Reader A → Reader A
-preceded p r = record { state = r .state; number = r .number; line = r .line; output = p ++ r .output; stopped = r .stopped }
-
-module _ {A : Type 0} (turn : A → ℕ → List ℕ → Turn A) (p : List ℕ) where
-  ended-preceded : (r : Reader A) → ended turn (preceded p r) ≡ preceded p (ended turn r)
-  unfolding ended
-  ended-preceded r = go (r .stopped || ltb 65535 (r .number))
-    where
-      t : Turn A
-      t = turn (r .state) (r .number) (r .line)
-
-      next : List ℕ → Reader A
-      next output = record { state = t .after; number = suc (r .number); line = []; output = output; stopped = t .stops }
-
-      go : (b : Bool) → cond b (preceded p r) (next ((p ++ r .output) ++ t .printed)) ≡ preceded p (cond b r (next (r .output ++ t .printed)))
-      go true = refl
-      go false = ap next (append-assoc p (r .output) (t .printed))
-
-  fed-preceded : (r : Reader A) (b : ℕ) → fed turn (preceded p r) b ≡ preceded p (fed turn r b)
-  unfolding fed
-  fed-preceded r b = go (eqb b 10)
-    where
-      longer : Reader A
-      longer = withLine r (take 6145 (r .line ++ (b ∷ [])))
-
-      go : (c : Bool) → cond c (ended turn (preceded p r)) (preceded p longer) ≡ preceded p (cond c (ended turn r) longer)
-      go true = ended-preceded r
-      go false = refl
-
-  foldl-preceded : (block : List ℕ) (r : Reader A) → foldl (fed turn) (preceded p r) block ≡ preceded p (foldl (fed turn) r block)
-  foldl-preceded [] r = refl
-  foldl-preceded (b ∷ s) r = ap (λ (x : Reader A). foldl (fed turn) x s) (fed-preceded r b) ∙ foldl-preceded s (fed turn r b)
-
--- what was printed before is left out at any time
-unprinted-foldl : {A : Type 0} (turn : A → ℕ → List ℕ → Turn A) (r : Reader A) (block : List ℕ) → unprinted (foldl (fed turn) r block) ≡ unprinted (foldl (fed turn) (unprinted r) block)
-unprinted-foldl {A} turn r block =
-    ap (λ (l : List ℕ). unprinted (foldl (fed turn) (record { state = r .state; number = r .number; line = r .line; output = l; stopped = r .stopped }) block)) (sym (append-nil (r .output)))
-    ∙ ap unprinted (foldl-preceded turn (r .output) block (unprinted r))
+use Rattle.collect.specs.declared.Request.{Request}
+use Rattle.collect.specs.declared.Request.the-variants.{Nothing}
+use Rattle.collect.specs.declared.Reader.{Reader as Code·Reader}
+use Rattle.collect.specs.declared.Ending.{Ending}
+use Rattle.transcript.specs.declared.Held.{Held}
+use Rattle.transcript.specs.Transcript.{Reader, unprinted, withLine, ended, fed, LineHeld, heldLine, heldIn}
+use Rattle.collect.specs.Dialogue.{Dialogue, turn}
+use Rattle.collect.specs.Answering.{requested, readerIn, served, Ends}
+use Rattle.serve.specs.Serving.{Serves}
+use Rattle.dialogue.specs.Taking.{TakesLines}
+use Rattle.transcript.proofs.Transcripts.{line-by-line}
+use Rattle.transcript.proofs.Printing.{unprinted-foldl}
+use Rattle.transcript.proofs.Holding.{held-all}
+use Rattle.transcript.proofs.Prefixes.{least-take}
 
 -- what a block leads to, but for what is printed
 abbrev left : Reader Dialogue → List ℕ → Reader Dialogue
 left r block = unprinted (foldl (fed turn) r block)
 
 -- where a block stands at a byte: what the rest leads to from there is what the block leads to
-abbrev pub Taking : Reader Dialogue → List ℕ → Code·Reader → Session → List ℕ → List ℕ → ℕ → Type 0
-Taking start block r s links line from = left start block ≡ left (readerIn r s links line []) (drop from block)
+pub record StandsAt (start : Reader Dialogue) (block : List ℕ) (r : Code·Reader) (s : Session) (links line : List ℕ) (from : ℕ) : Type 0 where
+  pub leads : left start block ≡ left (readerIn r s links line []) (drop from block)
 
-module _ (start : Reader Dialogue) (block : List ℕ) (r : Code·Reader) (s : Session) (links line : List ℕ) (from : ℕ) (at : Taking start block r s links line from) where
-  pub taking-end : length block ≤ from → readerIn r s links line [] ≡ left start block
-  taking-end h = sym (at ∙ ap (left (readerIn r s links line [])) (drop-of-length-le block {i = from} h))
+module _ {start : Reader Dialogue} {block : List ℕ} {r : Code·Reader} {s : Session} {links line : List ℕ} {from : ℕ} (at : StandsAt start block r s links line from) where
+  pub stands-end : length block ≤ from → readerIn r s links line [] ≡ left start block
+  stands-end h = sym (at .leads ∙ ap (left (readerIn r s links line [])) (drop-of-length-le block {i = from} h))
 
-  pub taking-lines : (x : Code·Reader) (s′ : Session) (links′ line′ : List ℕ) (next : ℕ) (output : List ℕ) → TakesLines r s links line block from x s′ links′ line′ next output → Taking start block x s′ links′ line′ next
-  taking-lines x s′ links′ line′ next output t = at ∙ ap unprinted (t []) ∙ unprinted-foldl turn (readerIn x s′ links′ line′ output) (drop next block)
+  pub stands-lines : (x : Code·Reader) (s′ : Session) (links′ line′ : List ℕ) (next : ℕ) (output : List ℕ)
+      → TakesLines r s links line block from x s′ links′ line′ next output → StandsAt start block x s′ links′ line′ next
+  stands-lines x s′ links′ line′ next output t =
+      record { leads = at .leads ∙ ap unprinted (t []) ∙ unprinted-foldl turn (readerIn x s′ links′ line′ output) (drop next block) }
 
--- a line that does not end takes all that is left
-held-all : (block l : List ℕ) → heldLine l block .ends ≡ false → heldLine l block .rest ≡ []
-unfolding heldLine
-held-all [] l q = refl
-held-all (b ∷ s) l q = go (eqb b 10) (held-all s (take 6145 (l ++ (b ∷ [])))) q
-  where
-    go : (t : Bool) → (heldLine (take 6145 (l ++ (b ∷ []))) s .ends ≡ false → heldLine (take 6145 (l ++ (b ∷ []))) s .rest ≡ [])
-        → cond t (record { line = l; rest = s; ends = true }) (heldLine (take 6145 (l ++ (b ∷ []))) s) .ends ≡ false
-        → cond t (record { line = l; rest = s; ends = true }) (heldLine (take 6145 (l ++ (b ∷ []))) s) .rest ≡ []
-    go true more z = clash refl z
-    go false more z = more z
-
--- no line is taken
-pub lines-begin : (r : Code·Reader) (s : Session) (links line block : List ℕ) (from : ℕ) → TakesLines r s links line block from r s links line from []
-lines-begin r s links line block from printed = ap (λ (l : List ℕ). foldl (fed turn) (readerIn r s links line l) (drop from block)) (sym (append-nil printed))
-
--- one more line of a block is taken from a place on
-module _ (r₀ : Code·Reader) (s₀ : Session) (links₀ line₀ block : List ℕ) (from : ℕ) where
-  -- the line goes on in the block
-  module _ (r : Code·Reader) (s : Session) (links line : List ℕ) (at : ℕ) (output : List ℕ) (taken : TakesLines r₀ s₀ links₀ line₀ block from r s links line at output)
-      (h : Held) (line′ : List ℕ) (e : heldIn h line′ block ≡ heldLine (take (r .held) line) (drop at block)) where
-    abbrev held : Code·Reader
-    held = record { kept = r .kept; number = r .number; held = h .held; written = r .written; stopped = r .stopped }
-
-    lines-held : (b : Bool) → h .ends ≡ b → (printed : List ℕ)
-        → foldl (fed turn) (readerIn r₀ s₀ links₀ line₀ printed) (drop from block)
-        ≡ cond b (foldl (fed turn) (ended turn (readerIn held s links line′ (printed ++ output))) (drop (h .next) block)) (readerIn held s links line′ (printed ++ output))
-    lines-held b q printed =
-        let old = readerIn r s links line (printed ++ output) in
-        let new = readerIn held s links line′ (printed ++ output) in
-        taken printed
-        ∙ line-by-line turn old (drop at block)
-        ∙ sym (ap (λ (l : LineHeld). cond (l .ends) (foldl (fed turn) (ended turn (withLine old (l .line))) (l .rest)) (withLine old (l .line))) e)
-        ∙ ap (λ (c : Bool). cond c (foldl (fed turn) (ended turn new) (drop (h .next) block)) new) q
-
-    -- it does not end there
-    module _ (q : h .ends ≡ false) where
-      all : drop (h .next) block ≡ []
-      all = ap (λ (l : LineHeld). l .rest) e ∙ held-all (drop at block) (take (r .held) line) (sym (ap (λ (l : LineHeld). l .ends) e) ∙ q)
-
-      pub lines-rest : TakesLines r₀ s₀ links₀ line₀ block from held s links line′ (h .next) output
-      lines-rest printed = lines-held false q printed ∙ sym (ap (foldl (fed turn) (readerIn held s links line′ (printed ++ output))) all)
-
-      pub lines-whole : length block ≤ h .next
-      lines-whole = omega (arith, ap length all, length-drop (h .next) block)
-
-    -- it ends there, and has what it asks of the session
-    module _ (q : h .ends ≡ true) (e′ : Ending) (numbers links′ out : List ℕ) (ends : Ends held links line′ e′ numbers links′ out) where
-      lines-served : (x : Code·Reader) (s′ : Session) (reply : List ℕ)
-          → ((printed : List ℕ) → readerIn x s′ links′ line′ (printed ++ reply) ≡ served (e′ .request) numbers (take (e′ .reader .written) out) (readerIn (e′ .reader) s links′ line′ printed))
-          → TakesLines r₀ s₀ links₀ line₀ block from x s′ links′ line′ (h .next) (output ++ reply)
-      lines-served x s′ reply z printed =
-          lines-held true q printed
-          ∙ ap (λ (y : Reader Dialogue). foldl (fed turn) y (drop (h .next) block)) (sym (z (printed ++ output) ∙ ends s (printed ++ output)))
-          ∙ ap (λ (l : List ℕ). foldl (fed turn) (readerIn x s′ links′ line′ l) (drop (h .next) block)) (append-assoc printed output reply)
-
-      pub lines-silent : e′ .request ≡ Nothing → TakesLines r₀ s₀ links₀ line₀ block from (e′ .reader) s links′ line′ (h .next) (output ++ take (e′ .reader .written) out)
-      unfolding requested
-      lines-silent n =
-          lines-served (e′ .reader) s (take (e′ .reader .written) out)
-          (λ printed. sym (ap (λ (y : Request). served y numbers (take (e′ .reader .written) out) (readerIn (e′ .reader) s links′ line′ printed)) n))
-
-      pub lines-reply : (y : Request) (x : Code·Reader) (s′ : Session) (out′ : List ℕ) → e′ .request ≡ y → Serves y numbers (e′ .reader) s links′ x s′ out′
-          → TakesLines r₀ s₀ links₀ line₀ block from x s′ links′ line′ (h .next) (output ++ take (x .written) out′)
-      lines-reply y x s′ out′ n serves =
-          lines-served x s′ (take (x .written) out′)
-          (λ printed. serves line′ (take (e′ .reader .written) out) printed
-          ∙ sym (ap (λ (z : Request). served z numbers (take (e′ .reader .written) out) (readerIn (e′ .reader) s links′ line′ printed)) n))
-
-  -- under other names
-  pub lines-as : (links line : List ℕ) (next : ℕ) (output reply : List ℕ) (x x′ : Code·Reader) (s s′ : Session) (output′ : List ℕ) → x′ ≡ x → s′ ≡ s → output′ ≡ output ++ take (x′ .written) reply
-      → TakesLines r₀ s₀ links₀ line₀ block from x s links line next (output ++ take (x .written) reply) → TakesLines r₀ s₀ links₀ line₀ block from x′ s′ links line next output′
-  lines-as links line next output reply x x′ s s′ output′ p q o t printed =
-      t printed
-      ∙ sym (ap₂ (λ (y : Code·Reader) (z : Session). foldl (fed turn) (readerIn y z links line (printed ++ (output ++ take (y .written) reply))) (drop next block)) p q)
-      ∙ sym (ap (λ (l : List ℕ). foldl (fed turn) (readerIn x′ s′ links line (printed ++ l)) (drop next block)) o)
+-- the line that is held ends: what is known after it, the session and its reply, whatever was printed before
+abbrev TakesLine : Code·Reader → Session → List ℕ → List ℕ → Code·Reader → Session → List ℕ → List ℕ → Type 0
+TakesLine r s links line x s′ links′ out = (printed : List ℕ) → readerIn x s′ links′ line (printed ++ take (x .written) out) ≡ ended turn (readerIn r s links line printed)
 
 -- a slice whose part from w on was lent, and has come back as p
-abbrev back : List ℕ → ℕ → List ℕ → List ℕ
+abbrev pub back : List ℕ → ℕ → List ℕ → List ℕ
 back o w p = take w o ++ (p ++ drop (length o - w) (drop w o))
 
--- a slice that holds p from w on, as long as it was, and before w what it held
-pub record Placed (o : List ℕ) (w : ℕ) (p n : List ℕ) : Type 0 where
-  pub holds : n ≡ take w o ++ p
-  pub long : w + length p ≡ length o
+back-end : (o : List ℕ) (w : ℕ) → w ≤ length o → (p : List ℕ) → back o w p ≡ take w o ++ p
+back-end o w h p =
+    ap (λ (l : List ℕ). take w o ++ (p ++ l)) (drop-of-length-le (drop w o) {i = length o - w} (omega (arith, length-drop w o)))
+    ∙ ap (λ (l : List ℕ). take w o ++ l) (append-nil p)
 
-module _ (o : List ℕ) (w : ℕ) (h : w ≤ length o) where
-  back-end : (p : List ℕ) → back o w p ≡ take w o ++ p
-  back-end p =
-      ap (λ (l : List ℕ). take w o ++ (p ++ l)) (drop-of-length-le (drop w o) {i = length o - w} (omega (arith, length-drop w o)))
-      ∙ ap (λ (l : List ℕ). take w o ++ l) (append-nil p)
+module _ (o : List ℕ) (w : ℕ) (h : w ≤ length o) (p : List ℕ) (q : length p ≡ length (take (length o - w) (drop w o))) where
+  pub back-length : length (back o w p) ≡ length o
+  back-length = ap length (back-end o w h p) ∙ omega (arith, length-append (take w o) p, length-take w o, q, length-take (length o - w) (drop w o), length-drop w o)
 
-  pub placed-once : (p n : List ℕ) → length p ≡ length (take (length o - w) (drop w o)) → n ≡ back o w p → Placed o w p n
-  placed-once p n q e = record { holds = e ∙ back-end p; long = omega (arith, q, length-take (length o - w) (drop w o), length-drop w o) }
+  -- the first k bytes of what came back, after what was written before
+  pub back-taken : (k r : ℕ) → r ≡ min k (length (back o w p) - w) → take (w + r) (back o w p) ≡ take w o ++ take k p
+  back-taken k r e =
+      ap (take (w + r)) (back-end o w h p)
+      ∙ ap (λ (m : ℕ). take (m + r) (take w o ++ p)) (let z : w ≡ length (take w o) = omega (arith, length-take w o) in z)
+      ∙ take-append-add (take w o) p r
+      ∙ ap (λ (l : List ℕ). take w o ++ l) (least-take {r = r} k p (omega (arith, e, back-length, q, length-take (length o - w) (drop w o), length-drop w o)))
 
-  module _ (p n : List ℕ) (at : Placed o w p n) where
-    pub placed-length : length n ≡ length o
-    placed-length = ap length (at .holds) ∙ omega (arith, length-append (take w o) p, length-take w o, at .long)
+  -- the part is lent again, and comes back as p′
+  module _ (p′ : List ℕ) (q′ : length p′ ≡ length (take (length (back o w p) - w) (drop w (back o w p)))) where
+    back-again : back (back o w p) w p′ ≡ back o w p′
+    back-again =
+        back-end (back o w p) w (omega (arith, back-length)) p′
+        ∙ ap (λ (l : List ℕ). l ++ p′) (ap (take w) (back-end o w h p) ∙ take-at (take w o) p w (omega (arith, length-take w o)))
+        ∙ sym (back-end o w h p′)
 
-    pub placed-reply : (k r : ℕ) → r ≡ min k (length n - w) → take (w + r) n ≡ take w o ++ take k p
-    placed-reply k r q =
-        ap (take (w + r)) (at .holds)
-        ∙ ap (λ (m : ℕ). take (m + r) (take w o ++ p)) (let z : w ≡ length (take w o) = omega (arith, length-take w o) in z)
-        ∙ take-append-add (take w o) p r
-        ∙ ap (λ (l : List ℕ). take w o ++ l) (least-take {r = r} k p (omega (arith, q, placed-length, at .long)))
+    again-length : length p′ ≡ length (take (length o - w) (drop w o))
+    again-length =
+        omega (
+          arith,
+          q′,
+          back-length,
+          length-take (length (back o w p) - w) (drop w (back o w p)),
+          length-drop w (back o w p),
+          length-take (length o - w) (drop w o),
+          length-drop w o,
+        )
 
-pub placed-again : (o : List ℕ) (w : ℕ) (h : w ≤ length o) (p n : List ℕ) → Placed o w p n → (p′ n′ : List ℕ) → length p′ ≡ length (take (length n - w) (drop w n)) → n′ ≡ back n w p′ → Placed o w p′ n′
-placed-again o w h p n at p′ n′ q e =
-    let i : w ≤ length n = omega (arith, placed-length o w h p n at) in
-    let z = placed-once n w i p′ n′ q e in
-    record {
-      holds = z .holds ∙ ap (λ (l : List ℕ). l ++ p′) (ap (take w) (at .holds) ∙ take-at (take w o) p w (omega (arith, length-take w o)));
-      long = omega (arith, z .long, placed-length o w h p n at);
-    }
+-- a line is taken, with its reply in the part of a slice from w on: the slice was o, and is n
+pub record LineTaken (r : Code·Reader) (s : Session) (links line : List ℕ) (x : Code·Reader) (s′ : Session) (links′ o : List ℕ) (w : ℕ) (n : List ℕ) : Type 0 where
+  pub part : List ℕ
+  pub long : length part ≡ length (take (length o - w) (drop w o))
+  pub slice : n ≡ back o w part
+  pub takes : TakesLine r s links line x s′ links′ part
+
+-- the line that is held ends, its own reply in the part from w on
+module _ (r : Code·Reader) (s : Session) (links line : List ℕ) (e : Ending) (numbers links′ o : List ℕ) (w : ℕ) (h : w ≤ length o) (p : List ℕ)
+    (ends : Ends r links line e numbers links′ p) (q : length p ≡ length (take (length o - w) (drop w o))) where
+  -- it asks nothing of the session
+  pub taken-silent : e .request ≡ Nothing → (x : Code·Reader) (s′ : Session) (n : List ℕ) → n ≡ back o w p → x ≡ e .reader → s′ ≡ s → LineTaken r s links line x s′ links′ o w n
+  unfolding requested
+  taken-silent z x s′ n i j k = record {
+    part = p;
+    long = q;
+    slice = i;
+    takes =
+        subst₂ (λ (y : Code·Reader) (t : Session). TakesLine r s links line y t links′ p) (sym j) (sym k)
+        (λ printed. sym (ap (λ (y : Request). served y numbers (take (e .reader .written) p) (readerIn (e .reader) s links′ line printed)) z) ∙ ends s printed);
+  }
+
+  -- it has what it asks of the session, in the same part
+  pub taken-served : (y : Request) (x : Code·Reader) (s′ : Session) (p′ : List ℕ) → e .request ≡ y → length p′ ≡ length (take (length (back o w p) - w) (drop w (back o w p)))
+      → Serves y numbers (e .reader) s links′ x s′ p′ → (x′ : Code·Reader) (s″ : Session) (n : List ℕ) → n ≡ back (back o w p) w p′ → x′ ≡ x → s″ ≡ s′ → LineTaken r s links line x′ s″ links′ o w n
+  taken-served y x s′ p′ z q′ serves x′ s″ n i j k = record {
+    part = p′;
+    long = again-length o w h p q p′ q′;
+    slice = i ∙ back-again o w h p q p′ q′;
+    takes =
+        subst₂ (λ (v : Code·Reader) (t : Session). TakesLine r s links line v t links′ p′) (sym j) (sym k)
+        (λ printed. serves line (take (e .reader .written) p) printed
+        ∙ sym (ap (λ (v : Request). served v numbers (take (e .reader .written) p) (readerIn (e .reader) s links′ line printed)) z)
+        ∙ ends s printed);
+  }
+
+pub taken-length : {r : Code·Reader} {s : Session} {links line : List ℕ} {x : Code·Reader} {s′ : Session} {links′ o : List ℕ} {w : ℕ} {n : List ℕ} → w ≤ length o
+    → LineTaken r s links line x s′ links′ o w n → length n ≡ length o
+taken-length {o = o} {w = w} h t = ap length (t .slice) ∙ back-length o w h (t .part) (t .long)
+
+-- where the lines of a block have been taken to: what is known there, the place, and the replies at the start of a slice
+pub record Reached (r₀ : Code·Reader) (s₀ : Session) (links₀ line₀ block : List ℕ) (from : ℕ) (r : Code·Reader) (s : Session) (links line : List ℕ) (next : ℕ) (out : List ℕ) (written : ℕ) : Type 0 where
+  pub taken : TakesLines r₀ s₀ links₀ line₀ block from r s links line next (take written out)
+  pub within : next ≤ length block
+  pub room : written ≤ length out
+  pub onward : from ≤ next
+  pub begun : (written ≡ 0) ⊎ (from < next)
+
+-- no line is taken
+pub reached-begin : (r : Code·Reader) (s : Session) (links line block : List ℕ) (from : ℕ) (out : List ℕ) → from ≤ length block → Reached r s links line block from r s links line from out 0
+reached-begin r s links line block from out h = record {
+  taken = λ printed. ap (λ (l : List ℕ). foldl (fed turn) (readerIn r s links line l) (drop from block)) (sym (append-nil printed));
+  within = h;
+  room = omega arith;
+  onward = omega arith;
+  begun = inl refl;
+}
+
+-- what is known with the bytes that a block leaves of a line
+abbrev pub holding : Code·Reader → Held → Code·Reader
+holding r h = record { kept = r .kept; number = r .number; held = h .held; written = r .written; stopped = r .stopped }
+
+-- the line goes on in the block
+module _ {r₀ : Code·Reader} {s₀ : Session} {links₀ line₀ block : List ℕ} {from : ℕ} {r : Code·Reader} {s : Session} {links line : List ℕ} {at : ℕ} {out : List ℕ} {written : ℕ}
+    (z : Reached r₀ s₀ links₀ line₀ block from r s links line at out written) (h : Held) (line′ : List ℕ) (e : heldIn h line′ block ≡ heldLine (take (r .held) line) (drop at block)) where
+  lines-held : (b : Bool) → h .ends ≡ b → (printed : List ℕ)
+      → foldl (fed turn) (readerIn r₀ s₀ links₀ line₀ printed) (drop from block)
+      ≡ (let new = readerIn (holding r h) s links line′ (printed ++ take written out) in cond b (foldl (fed turn) (ended turn new) (drop (h .next) block)) new)
+  lines-held b q printed =
+      let old = readerIn r s links line (printed ++ take written out) in
+      let new = readerIn (holding r h) s links line′ (printed ++ take written out) in
+      z .taken printed
+      ∙ line-by-line turn old (drop at block)
+      ∙ sym (ap (λ (l : LineHeld). cond (l .ends) (foldl (fed turn) (ended turn (withLine old (l .line))) (l .rest)) (withLine old (l .line))) e)
+      ∙ ap (λ (c : Bool). cond c (foldl (fed turn) (ended turn new) (drop (h .next) block)) new) q
+
+  -- it does not end there
+  module _ (q : h .ends ≡ false) where
+    all : drop (h .next) block ≡ []
+    all = ap (λ (l : LineHeld). l .rest) e ∙ held-all (drop at block) (take (r .held) line) (sym (ap (λ (l : LineHeld). l .ends) e) ∙ q)
+
+    pub reached-held : TakesLines r₀ s₀ links₀ line₀ block from (holding r h) s links line′ (h .next) (take written out)
+    reached-held printed = lines-held false q printed ∙ sym (ap (foldl (fed turn) (readerIn (holding r h) s links line′ (printed ++ take written out))) all)
+
+    pub reached-all : length block ≤ h .next
+    reached-all = omega (arith, ap length all, length-drop (h .next) block)
+
+  -- it ends there, and is taken
+  pub reached-more : h .ends ≡ true → h .next ≤ length block → at < h .next → (x : Code·Reader) (s′ : Session) (links′ n : List ℕ)
+      → LineTaken (holding r h) s links line′ x s′ links′ out written n → (k : ℕ) → k ≡ min (x .written) (length n - written)
+      → Reached r₀ s₀ links₀ line₀ block from x s′ links′ line′ (h .next) n (written + k)
+  reached-more q w on x s′ links′ n t k m =
+      let after : List ℕ → Reader Dialogue = λ o. foldl (fed turn) (readerIn x s′ links′ line′ o) (drop (h .next) block) in
+      let m′ = m ∙ ap (λ (l : List ℕ). min (x .written) (length l - written)) (t .slice) in
+      record {
+        taken = λ printed.
+            lines-held true q printed
+            ∙ ap (λ (y : Reader Dialogue). foldl (fed turn) y (drop (h .next) block)) (sym (t .takes (printed ++ take written out)))
+            ∙ ap after (append-assoc printed (take written out) (take (x .written) (t .part)))
+            ∙ sym (ap (λ (o : List ℕ). after (printed ++ o)) (ap (take (written + k)) (t .slice) ∙ back-taken out written (z .room) (t .part) (t .long) (x .written) k m′));
+        within = w;
+        room = omega (arith, m, taken-length (z .room) t, z .room);
+        onward = omega (arith, on, z .onward);
+        begun = inr (omega (arith, on, z .onward));
+      }
+
+-- the lent slices are long enough, and as long as they were
+pub record Lengths (line₀ numbers₀ links₀ out₀ line numbers links out : List ℕ) : Type 0 where
+  pub line-long : length line ≡ 6145
+  pub numbers-long : 3072 ≤ length numbers
+  pub links-long : length links ≡ 8192
+  pub out-long : 8192 ≤ length out
+  pub line-same : length line ≡ length line₀
+  pub numbers-same : length numbers ≡ length numbers₀
+  pub links-same : length links ≡ length links₀
+  pub out-same : length out ≡ length out₀
+
+pub lengths-begin : (line numbers links out : List ℕ) → length line ≡ 6145 → 3072 ≤ length numbers → length links ≡ 8192 → 8192 ≤ length out → Lengths line numbers links out line numbers links out
+lengths-begin line numbers links out a b c d =
+    record { line-long = a; numbers-long = b; links-long = c; out-long = d; line-same = refl; numbers-same = refl; links-same = refl; out-same = refl }
+
+pub lengths-again : {line₀ numbers₀ links₀ out₀ line numbers links out : List ℕ} → Lengths line₀ numbers₀ links₀ out₀ line numbers links out → (line′ numbers′ links′ out′ : List ℕ)
+    → length line′ ≡ length line → length numbers′ ≡ length numbers → length links′ ≡ length links → length out′ ≡ length out → Lengths line₀ numbers₀ links₀ out₀ line′ numbers′ links′ out′
+lengths-again l line′ numbers′ links′ out′ a b c d = record {
+  line-long = a ∙ l .line-long;
+  numbers-long = omega (arith, b, l .numbers-long);
+  links-long = c ∙ l .links-long;
+  out-long = omega (arith, d, l .out-long);
+  line-same = a ∙ l .line-same;
+  numbers-same = b ∙ l .numbers-same;
+  links-same = c ∙ l .links-same;
+  out-same = d ∙ l .out-same;
+}

@@ -1,4 +1,1 @@
-pub mod Transcripts
-pub mod Replying
-pub mod Reading
 pub mod Blocks

@@ -1,3 +1,1 @@
-pub mod Transcript
-pub mod Dialogue
-pub mod Answering
+pub mod Taking

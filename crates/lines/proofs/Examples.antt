@@ -1,12 +1,11 @@
--- Document 01's input and output, line by line, lines that are no form, and the longest ear, each computed from the definitions.
+-- Document 01's input, line by line, lines that are no form, and the longest ear, each computed from the definitions.
 -- A carriage return is a byte like any other.
 use mathlib.Core.Path.{_≡_, refl}
 use mathlib.Core.List.{[], _∷_, map}
 use mathlib.Core.Option.{none, some}
 use lib.ListN.{replicate}
-use Rattle.lines.specs.Writing.{ascii, decimalIn, decimal, spaced, joined, bracketed, net, link, opening, ear, closing, walk, clearing, writing}
+use Rattle.lines.specs.Writing.{ascii, decimalIn, decimal, spaced, separated, bracketed, net, link, opening, ear, closing, walk, clearing, writing}
 use Rattle.lines.specs.Reading.{after, digits, number, namedNumber, numbersIn, earNumbers, netForm, pairNumbers, bareForms, otherForms, anyForm, reading}
-use Rattle.lines.specs.Replies.{opened, new, refused, closed, walked, cleared, unread, reply}
 
 pub input-is-read : map reading (
     ascii "(net 4 (root 0) (first 1) (last 3))"
@@ -47,23 +46,11 @@ pub no-forms-are-unread : map reading (
 unfolding reading anyForm otherForms bareForms pairNumbers netForm earNumbers numbersIn namedNumber number digits after
 no-forms-are-unread = refl
 
-pub output-is-written : map reply (opened 4 6 ∷ new 3 ∷ refused 23 2 ∷ closed ∷ walked 2 3 (2 ∷ 3 ∷ 0 ∷ []) ∷ cleared ∷ unread 65535 ∷ [])
-    ≡ ascii "(opened 4 6)\n"
-    ∷ ascii "(new 3)\n"
-    ∷ ascii "(refused 23 2)\n"
-    ∷ ascii "(closed)\n"
-    ∷ ascii "(walk 2 3 (2 3 0))\n"
-    ∷ ascii "(cleared)\n"
-    ∷ ascii "(unread 65535)\n"
-    ∷ []
-unfolding bracketed joined spaced decimal decimalIn
-output-is-written = refl
-
 -- 3,069 numbers in 6,144 bytes, and one byte more
 pub longest-ear-is-read : reading (writing (ear (10 ∷ replicate 3068 0))) ≡ some (ear (10 ∷ replicate 3068 0))
-unfolding reading anyForm earNumbers numbersIn number digits after writing bracketed joined spaced decimal decimalIn
+unfolding reading anyForm earNumbers numbersIn number digits after writing bracketed separated spaced decimal decimalIn
 longest-ear-is-read = refl
 
 pub longer-ear-is-unread : reading (writing (ear (100 ∷ replicate 3068 0))) ≡ none
-unfolding reading writing bracketed joined spaced decimal decimalIn
+unfolding reading writing bracketed separated spaced decimal decimalIn
 longer-ear-is-unread = refl

@@ -4,5 +4,4 @@ pub mod EarNumbers
 pub mod ReadExactly
 pub mod Places
 pub mod Steps
-pub mod Slices
 pub mod Examples

@@ -10,8 +10,8 @@ use native.Mathlib.Omega.{arith}
 use lib.Dec.{ltb}
 use lib.ListN.{length}
 use borrow.Author.Tests.{le-ltb, ltb-false}
-use Rattle.lines.specs.Writing.{NET, ROOT, FIRST, LAST, LINK, OPEN, EAR, CLOSE, WALK, CLEAR, decimal, spaced, joined, bracketed, Form, net, link, opening, ear, closing, walk, clearing, writing, numbersOf}
-use Rattle.lines.specs.Reading.{after, more, ends, spacedNumber, namedNumber, earNumbers, afterWord, netForm, pairNumbers, pairForm, bareForm, earForm, bareForms, otherForms, anyForm, reading, Narrow, Writes, ReadExactly}
+use Rattle.lines.specs.Writing.{NET, ROOT, FIRST, LAST, LINK, OPEN, EAR, CLOSE, WALK, CLEAR, decimal, spaced, separated, bracketed, Form, net, link, opening, ear, closing, walk, clearing, writing, numbersOf}
+use Rattle.lines.specs.Reading.{after, more, ends, spacedNumber, namedNumber, earNumbers, afterWord, netForm, pairNumbers, pairForm, bareForm, earForm, bareForms, otherForms, anyForm, reading, Narrow, IsWriting, ReadExactly}
 use Rattle.lines.proofs.Parts.{more-append, ends-bytes, after-bytes, spaced-bytes, spaced-part, namedBefore, named-bytes, named-part}
 use Rattle.lines.proofs.EarNumbers.{numbers-bytes, numbers-part}
 
@@ -51,12 +51,12 @@ pair-bytes form s e =
     (a .value, b .value, p .1, first .0 ∙ ap (λ (l : List ℕ). 32 ∷ (decimal (a .value) ++ l)) (second .0 ∙ ap (λ (l : List ℕ). 32 ∷ (decimal (b .value) ++ l)) end), first .1, second .1)
 
 pair-writing : (word : List ℕ) (a b : ℕ) → bracketed (word ∷ decimal a ∷ decimal b ∷ []) ≡ 40 ∷ (word ++ (32 ∷ (decimal a ++ (32 ∷ (decimal b ++ (41 ∷ []))))))
-unfolding joined bracketed spaced
+unfolding separated bracketed spaced
 pair-writing word a b = simp append-assoc
 
 net-writing : (n root first last : ℕ) → writing (net n root first last)
     ≡ 40 ∷ (NET ++ (32 ∷ (decimal n ++ namedBefore ROOT root (namedBefore FIRST first (namedBefore LAST last (41 ∷ []))))))
-unfolding writing joined bracketed spaced
+unfolding writing separated bracketed spaced
 net-writing n root first last = simp append-assoc
 
 -- a word with two numbers was read
@@ -70,7 +70,7 @@ pair-read word s form w ns e =
 
 -- a word with no number was read
 bare-read : (word s : List ℕ) (form : Form) {f : Form} → writing form ≡ bracketed (word ∷ []) → numbersOf form ≡ [] → bareForm form (afterWord word s) ≡ some f → Form·of s f
-unfolding Narrow joined bracketed spaced
+unfolding Narrow separated bracketed spaced
 bare-read word s form w ns e =
     let p = passed (ends (afterWord word s)) e in
     let end = ends-bytes (afterWord word s) (p .0) in
@@ -103,7 +103,7 @@ net-read s e =
     )
 
 ear-read : (s : List ℕ) {f : Form} → earForm (afterWord EAR s) ≡ some f → Form·of s f
-unfolding writing joined bracketed
+unfolding writing separated bracketed
 ear-read s e =
     let rest = afterWord EAR s in
     let before = spaced (map decimal (earNumbers rest .list)) in
@@ -129,11 +129,11 @@ form-read s e =
     (either (more (afterWord LINK s)) e₁))
     (either (more (afterWord EAR s)) e)
 
-read-bytes : (s : List ℕ) (f : Form) → reading s ≡ some f → Writes f s
+read-bytes : (s : List ℕ) (f : Form) → reading s ≡ some f → IsWriting f s
 unfolding reading
 read-bytes s f e = go (ltb 6144 (length s)) refl e
   where
-    go : (b : Bool) → ltb 6144 (length s) ≡ b → cond b none (anyForm s) ≡ some f → Writes f s
+    go : (b : Bool) → ltb 6144 (length s) ≡ b → cond b none (anyForm s) ≡ some f → IsWriting f s
     go true l e₁ = never e₁
     go false l e₁ = let r = form-read s e₁ in record { bytes = r .0; narrow = r .1; short = ltb-false 6144 (length s) l }
 
@@ -154,7 +154,7 @@ net-part n root first last (c, (r, (f, (l, w)))) =
 
 -- the writing of a form is read as the form
 form-part : (f : Form) → Narrow (numbersOf f) → anyForm (writing f) ≡ some f
-unfolding anyForm otherForms bareForms writing joined bracketed spaced after Narrow
+unfolding anyForm otherForms bareForms writing separated bracketed spaced after Narrow
 form-part (net n root first last) w = ap anyForm (net-writing n root first last) ∙ net-part n root first last w
 form-part (link a b) w = ap anyForm (pair-writing LINK a b) ∙ pair-part link a b (w .0) (w .1 .0)
 form-part opening w = refl

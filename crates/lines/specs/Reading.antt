@@ -146,11 +146,11 @@ Narrow [] = Unit
 Narrow (n ∷ ns) = (n ≤ 65535) × Narrow ns
 
 -- a line is the writing of a form, within the limits
-pub record Writes (f : Form) (s : List ℕ) : Type 0 where
+pub record IsWriting (f : Form) (s : List ℕ) : Type 0 where
   pub bytes : s ≡ writing f
   pub narrow : Narrow (numbersOf f)
   pub short : length s ≤ 6144
 
 -- a line is read as a form exactly when it is the form's writing, within the limits
 abbrev pub ReadExactly : Type 0
-ReadExactly = (s : List ℕ) (f : Form) → (reading s ≡ some f → Writes f s) × (Writes f s → reading s ≡ some f)
+ReadExactly = (s : List ℕ) (f : Form) → (reading s ≡ some f → IsWriting f s) × (IsWriting f s → reading s ≡ some f)

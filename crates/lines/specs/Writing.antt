@@ -59,13 +59,13 @@ spaced [] = []
 spaced (p ∷ ps) = ascii " " ++ (p ++ spaced ps)
 
 -- parts, one space between
-unfoldable pub joined : List (List ℕ) → List ℕ
-joined [] = []
-joined (p ∷ ps) = p ++ spaced ps
+unfoldable pub separated : List (List ℕ) → List ℕ
+separated [] = []
+separated (p ∷ ps) = p ++ spaced ps
 
 -- parts in brackets
 unfoldable pub bracketed : List (List ℕ) → List ℕ
-bracketed ps = ascii "(" ++ (joined ps ++ ascii ")")
+bracketed ps = ascii "(" ++ (separated ps ++ ascii ")")
 
 -- the forms of a line
 pub data Form : Type 0 where

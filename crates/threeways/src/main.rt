@@ -1,11 +1,11 @@
 // threeways: reads standard input in blocks, hands their bytes to the dialogue, and writes the replies before it reads on.
 // Memory is fixed: one block, one line, the numbers of an ear, the links collected, replies, and the session.
-use dialogue::Reader;
+use collect::Reader;
 use session::Session;
 ghost use mathlib.Core.Path.{_≡_};
 ghost use Prim.Native.Nat.{_≤_};
 ghost use lib.ListN.{length};
-ghost use Rattle.dialogue.specs.Answering.{Takes};
+ghost use Rattle.dialogue.specs.Taking.{Takes};
 
 // What is known after a block, and the session.
 struct Known {

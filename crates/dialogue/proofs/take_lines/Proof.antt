@@ -1,25 +1,44 @@
-use borrow.Author.Tests.{not-false, not-true}
-use mathlib.Core.Logic.{_⊎_, inl, inr}
-use Prim.Native.Nat.{_<_}
-use Rattle.dialogue.proofs.Blocks.{lines-begin, lines-rest, lines-whole, lines-silent, lines-reply, lines-as, placed-once, placed-again, placed-length, placed-reply}
-use mathlib.Core.Path.{_≡_, refl, _∙_}
+use Prim.Native.Nat.{_-_}
 use mathlib.Core.Logic.{⊎-elim}
-use Prim.Native.Nat.{_≤_, _-_}
 use native.Mathlib.Omega.{arith}
-use lib.ListN.{length, take}
+use lib.ListN.{length}
+use borrow.Author.Tests.{not-false, not-true}
 use borrow.Author.Needs.{needs}
-use Rattle.dialogue.specs.Answering.{TakesLines}
+use Rattle.dialogue.proofs.Blocks.{Reached, reached-begin, reached-held, reached-all, reached-more, holding, LineTaken, taken-silent, taken-served, taken-length, Lengths, lengths-begin, lengths-again}
 use Rattle.dialogue.proofs.take_lines.Statement.{statement}
 use Rattle.dialogue.proofs.take_lines.Tie as tie
 
 abbrev Inv-loop : tie.InvT-loop
-Inv-loop block from line₀ numbers₀ links₀ out₀ reader₀ session₀ next₀ written₀ line numbers links out reader session next written = TakesLines reader₀ session₀ links₀ line₀ block next₀ reader session links line next (take written out) × (next ≤ length block) × (written ≤ length out) × (next₀ ≤ next) × ((written ≡ 0) ⊎ (next₀ < next)) × (length line ≡ 6145) × (length line₀ ≡ 6145) × (3072 ≤ length numbers) × (length numbers ≡ length numbers₀) × (length links ≡ 8192) × (length links₀ ≡ 8192) × (8192 ≤ length out) × (length out ≡ length out₀)
+Inv-loop block from line₀ numbers₀ links₀ out₀ reader₀ session₀ next₀ written₀ line numbers links out reader session next written =
+    Reached reader₀ session₀ links₀ line₀ block next₀ reader session links line next out written × Lengths line₀ numbers₀ links₀ out₀ line numbers links out
 
 abbrev μ-loop : tie.MeasureT-loop
 μ-loop block from line₀ numbers₀ links₀ out₀ reader₀ session₀ next₀ written₀ line numbers links out reader session next written = length block - next
 
+-- the loop's body, where the line is held, where it ends, and where it has what it asks of the session; and the start
+abbrev start : tie.In-loop Inv-loop μ-loop → tie.Start Inv-loop μ-loop
+start c = c .before .before .before .before .before .before .before
+
+abbrev body : tie.After-hold-line Inv-loop μ-loop → tie.In-loop Inv-loop μ-loop
+body c = c .before .before .before
+
+abbrev at-ends : tie.After-end-line Inv-loop μ-loop → tie.Else2 Inv-loop μ-loop
+at-ends c = c .before .before .before .before .before
+
+abbrev at-hold : tie.After-end-line Inv-loop μ-loop → tie.After-hold-line Inv-loop μ-loop
+at-hold c = at-ends c .before .before .before .before
+
+abbrev at-end : tie.At-match-came Inv-loop μ-loop → tie.After-end-line Inv-loop μ-loop
+at-end c = c .before .before .before .before .before .before .before .before
+
 loop-holds : tie.Need-loop-holds Inv-loop μ-loop
-loop-holds c = let a = c .before .before .before .before .before .args in let p = c .before .before .before .before .before .pre in (lines-begin (a .r) (a .s) (a .links .now) (a .line .now) (a .block .now) (a .from), p .0, omega arith, omega arith, inl refl, p .1, p .1, p .2, refl, p .3, p .3, p .4, refl)
+loop-holds c =
+    let start = c .before .before .before .before .before in
+    let a = start .args in
+    let p = start .pre in (
+      reached-begin (a .r) (a .s) (a .links .now) (a .line .now) (a .block .now) (a .from) (a .out .now) (p .0),
+      lengths-begin (a .line .now) (a .numbers .now) (a .links .now) (a .out .now) (p .1) (p .2) (p .3) (p .4),
+    )
 
 sub-if1 : tie.Need-sub-if1 Inv-loop μ-loop
 sub-if1 c = search needs
@@ -72,53 +91,63 @@ part-serve-call-end c = search needs
 serve-call-requires : tie.Need-serve-call-requires Inv-loop μ-loop
 serve-call-requires c κs = search needs
 
+-- the line is taken, whatever it asks of the session
+line-taken : (c : tie.At-match-came Inv-loop μ-loop)
+    → (let e = at-end c .end-line in let h = at-hold (at-end c) .hold-line in let l = body (at-hold (at-end c)) .before .loop in let m = c .match in
+    LineTaken (holding (l .reader) (h .result)) (l .session) (l .links) (h .last .0) (m .reader) (m .session) (e .last .1 .1 .1 .0) (l .out) (l .written) (m .out))
+line-taken c =
+    let e = at-end c .end-line in
+    let h = at-hold (at-end c) .hold-line in
+    let l = body (at-hold (at-end c)) .before .loop in
+    let m = c .match in
+    let r = holding (l .reader) (h .result) in
+    let part = e .last .1 .1 .1 .1 .0 in
+    let long = e .kept .1 .1 .1 .1 .0 in
+    let silent = taken-silent r (l .session) (l .links) (h .last .0) (e .result) _ _ (l .out) (l .written) (l .inv .0 .room) part (e .ensures) long in
+    let served = taken-served r (l .session) (l .links) (h .last .0) (e .result) _ _ (l .out) (l .written) (l .inv .0 .room) part (e .ensures) long in
+    ⊎-elim
+    (λ w. silent (w .1 .given .1) (m .reader) (m .session) (m .out) (w .2) (w .3) (w .4))
+    (⊎-elim
+    (λ w.
+    let x = w .4 in
+    served _ (x .result) (l .session) (x .last .1 .1 .1 .1 .0) (w .1 .given .1) (x .kept .1 .1 .1 .1 .0) (x .ensures _ _) (m .reader) (m .session) (m .out) (w .7) (w .8) (w .9))
+    (λ w.
+    let x = w .6 in
+    served _ (x .result .reader) (x .result .session) (x .last .1 .1 .1 .1 .1 .0) (w .1 .given .1) (x .kept .1 .1 .1 .1 .1 .0) (x .ensures) (m .reader) (m .session) (m .out) (w .11) (w .12) (w .13)))
+    (m .came)
+
 sub-least : tie.Need-sub-least Inv-loop μ-loop
 sub-least c =
-    let l = c .before .before .before .before .before .before .before .before .before .before .before .before .before .before .before .before .before .before .before .before .before .loop in
-    let e = c .before .before .before .before .before .before .before .before .end-line in
-    let m = c .match in
-    let own = placed-once (l .out) (l .written) (l .inv .2) (e .last .1 .1 .1 .1 .0) in
-    let over = placed-again (l .out) (l .written) (l .inv .2) (e .last .1 .1 .1 .1 .0) _ (own _ (e .kept .1 .1 .1 .1 .0) refl) in
-    let long = placed-length (l .out) (l .written) (l .inv .2) in
-    let whole : length (m .out) ≡ length (l .out) = ⊎-elim (λ w. long _ (m .out) (own (m .out) (e .kept .1 .1 .1 .1 .0) (w .2))) (⊎-elim (λ w. long _ (m .out) (over (w .4 .last .1 .1 .1 .1 .0) (m .out) (w .4 .kept .1 .1 .1 .1 .0) (w .7))) (λ w. long _ (m .out) (over (w .6 .last .1 .1 .1 .1 .1 .0) (m .out) (w .6 .kept .1 .1 .1 .1 .1 .0) (w .11)))) (m .came) in
-    omega (arith, whole, l .inv .2)
+    let l = body (at-hold (at-end c)) .before .loop in
+    omega (arith, l .inv .0 .room, taken-length (l .inv .0 .room) (line-taken c))
 
 least-requires : tie.Need-least-requires Inv-loop μ-loop
 least-requires c κs = search needs
 
 add-written : tie.Need-add-written Inv-loop μ-loop
 add-written c =
-    let l = c .before .before .before .before .before .before .before .before .before .before .before .before .before .before .before .before .before .before .before .before .before .before .loop in
-    let e = c .before .before .before .before .before .before .before .before .before .end-line in
-    let m = c .before .match in
-    let own = placed-once (l .out) (l .written) (l .inv .2) (e .last .1 .1 .1 .1 .0) in
-    let over = placed-again (l .out) (l .written) (l .inv .2) (e .last .1 .1 .1 .1 .0) _ (own _ (e .kept .1 .1 .1 .1 .0) refl) in
-    let long = placed-length (l .out) (l .written) (l .inv .2) in
-    let whole : length (m .out) ≡ length (l .out) = ⊎-elim (λ w. long _ (m .out) (own (m .out) (e .kept .1 .1 .1 .1 .0) (w .2))) (⊎-elim (λ w. long _ (m .out) (over (w .4 .last .1 .1 .1 .1 .0) (m .out) (w .4 .kept .1 .1 .1 .1 .0) (w .7))) (λ w. long _ (m .out) (over (w .6 .last .1 .1 .1 .1 .1 .0) (m .out) (w .6 .kept .1 .1 .1 .1 .1 .0) (w .11)))) (m .came) in
-    omega (arith, c .least .ensures, whole, l .inv .2, l .inv .12, c .before .before .before .before .before .before .before .before .before .before .before .before .before .before .before .before .before .before .before .before .before .before .before .before .before .before .before .before .good .1 .1 .1 .1 .1 .1 .1 .0 .0)
+    let in-loop = body (at-hold (at-end (c .before))) in
+    let l = in-loop .before .loop in
+    omega (arith, c .least .ensures, l .inv .0 .room, l .inv .1 .out-same, taken-length (l .inv .0 .room) (line-taken (c .before)), start in-loop .good .1 .1 .1 .1 .1 .1 .1 .0 .0)
 
 loop-less : tie.Need-loop-less Inv-loop μ-loop
-loop-less c = omega (arith, c .before .before .before .before .before .before .before .before .before .before .before .before .before .before .before .before .before .before .hold-line .ensures .1 .1 (not-false _ (c .before .before .before .before .before .before .before .before .before .before .before .before .before .before .if2 .left)), c .before .before .before .before .before .before .before .before .before .before .before .before .before .before .before .before .before .before .hold-line .ensures .1 .0, c .before .before .before .before .before .before .before .before .before .before .before .before .before .before .before .before .before .before .before .before .before .loop-test .taken)
+loop-less c =
+    let e = at-end (c .before) in
+    let h = at-hold e .hold-line in
+    omega (arith, h .ensures .1 .1 (not-false _ (at-ends e .if2 .left)), h .ensures .1 .0, body (at-hold e) .loop-test .taken)
 
 loop-again : tie.Need-loop-again Inv-loop μ-loop
 loop-again c =
-    let l = c .before .before .before .before .before .before .before .before .before .before .before .before .before .before .before .before .before .before .before .before .before .before .loop in
-    let e = c .before .before .before .before .before .before .before .before .before .end-line in
+    let e = at-end (c .before) in
+    let h = at-hold e .hold-line in
+    let l = body (at-hold e) .before .loop in
     let m = c .before .match in
-    let own = placed-once (l .out) (l .written) (l .inv .2) (e .last .1 .1 .1 .1 .0) in
-    let over = placed-again (l .out) (l .written) (l .inv .2) (e .last .1 .1 .1 .1 .0) _ (own _ (e .kept .1 .1 .1 .1 .0) refl) in
-    let long = placed-length (l .out) (l .written) (l .inv .2) in
-    let whole : length (m .out) ≡ length (l .out) = ⊎-elim (λ w. long _ (m .out) (own (m .out) (e .kept .1 .1 .1 .1 .0) (w .2))) (⊎-elim (λ w. long _ (m .out) (over (w .4 .last .1 .1 .1 .1 .0) (m .out) (w .4 .kept .1 .1 .1 .1 .0) (w .7))) (λ w. long _ (m .out) (over (w .6 .last .1 .1 .1 .1 .1 .0) (m .out) (w .6 .kept .1 .1 .1 .1 .1 .0) (w .11)))) (m .came) in
-    let a = c .before .before .before .before .before .before .before .before .before .before .before .before .before .before .before .before .before .before .before .before .before .before .before .before .before .before .before .before .args in
-    let h = c .before .before .before .before .before .before .before .before .before .before .before .before .before .before .before .before .before .before .hold-line in
-    let ends = not-false _ (c .before .before .before .before .before .before .before .before .before .before .before .before .before .before .if2 .left) in
-    let silent = lines-silent (a .r) (a .s) (a .links .now) (a .line .now) (a .block .now) (a .from) (l .reader) (l .session) (l .links) (l .line) (l .next) (take (l .written) (l .out)) (l .inv .0) (h .result) _ (h .ensures .0) ends (e .result) _ _ _ (e .ensures) in
-    let reply = lines-reply (a .r) (a .s) (a .links .now) (a .line .now) (a .block .now) (a .from) (l .reader) (l .session) (l .links) (l .line) (l .next) (take (l .written) (l .out)) (l .inv .0) (h .result) _ (h .ensures .0) ends (e .result) _ _ _ (e .ensures) in
-    let named = lines-as (a .r) (a .s) (a .links .now) (a .line .now) (a .block .now) (a .from) _ _ (h .result .next) (take (l .written) (l .out)) in
-    let replied = placed-reply (l .out) (l .written) (l .inv .2) in
-    let taken = ⊎-elim (λ w. named (e .last .1 .1 .1 .1 .0) (e .result .reader) (m .reader) (l .session) (m .session) _ (w .3) (w .4) (replied (e .last .1 .1 .1 .1 .0) (m .out) (own (m .out) (e .kept .1 .1 .1 .1 .0) (w .2)) (m .reader .written) (c .least .result) (c .least .ensures)) (silent (w .1 .given .1))) (⊎-elim (λ w. named (w .4 .last .1 .1 .1 .1 .0) (w .4 .result) (m .reader) (l .session) (m .session) _ (w .8) (w .9) (replied (w .4 .last .1 .1 .1 .1 .0) (m .out) (over (w .4 .last .1 .1 .1 .1 .0) (m .out) (w .4 .kept .1 .1 .1 .1 .0) (w .7)) (m .reader .written) (c .least .result) (c .least .ensures)) (reply _ (w .4 .result) _ _ (w .1 .given .1) (w .4 .ensures _ _))) (λ w. named (w .6 .last .1 .1 .1 .1 .1 .0) (w .6 .result .reader) (m .reader) (w .6 .result .session) (m .session) _ (w .12) (w .13) (replied (w .6 .last .1 .1 .1 .1 .1 .0) (m .out) (over (w .6 .last .1 .1 .1 .1 .1 .0) (m .out) (w .6 .kept .1 .1 .1 .1 .1 .0) (w .11)) (m .reader .written) (c .least .result) (c .least .ensures)) (reply _ (w .6 .result .reader) (w .6 .result .session) _ (w .1 .given .1) (w .6 .ensures)))) (m .came) in
-    let on = h .ensures .1 .1 ends in
-    (taken, h .ensures .1 .0, omega (arith, c .least .ensures, whole, l .inv .2), omega (arith, on, l .inv .3), inr (omega (arith, on, l .inv .3)), omega (arith, h .kept .0, l .inv .5), l .inv .6, omega (arith, e .kept .1 .1 .0, l .inv .7), e .kept .1 .1 .0 ∙ l .inv .8, e .kept .1 .1 .1 .0 ∙ l .inv .9, l .inv .10, omega (arith, whole, l .inv .11), whole ∙ l .inv .12)
+    let ends = not-false _ (at-ends e .if2 .left) in
+    let t = line-taken (c .before) in
+    let kept = e .end-line .kept .1 .1 in (
+      reached-more (l .inv .0) (h .result) _ (h .ensures .0) ends (h .ensures .1 .0) (h .ensures .1 .1 ends) (m .reader) (m .session) _ (m .out) t (c .least .result) (c .least .ensures),
+      lengths-again (l .inv .1) _ _ _ _ (h .kept .0) (kept .0) (kept .1 .0) (taken-length (l .inv .0 .room) t),
+    )
 
 same-length : tie.Need-same-length Inv-loop μ-loop
 same-length c = search needs
@@ -133,7 +162,9 @@ same-length-4 : tie.Need-same-length-4 Inv-loop μ-loop
 same-length-4 c = search needs
 
 returns : tie.Need-returns Inv-loop μ-loop
-returns c = let l = c .before .loop in (l .inv .0, (l .inv .1, λ g. omega (arith, g, c .loop-test .left, l .inv .3)))
+returns c =
+    let l = c .before .loop in
+    (l .inv .0 .taken, (l .inv .0 .within, λ g. omega (arith, g, c .loop-test .left, l .inv .0 .onward)))
 
 same-length-5 : tie.Need-same-length-5 Inv-loop μ-loop
 same-length-5 c = search needs
@@ -148,7 +179,9 @@ same-length-8 : tie.Need-same-length-8 Inv-loop μ-loop
 same-length-8 c = search needs
 
 returns-2 : tie.Need-returns-2 Inv-loop μ-loop
-returns-2 c = let l = c .before .before .loop in (l .inv .0, (l .inv .1, λ g. ⊎-elim (λ z. omega (arith, z, c .if1 .taken, l .inv .11)) (λ z. z) (l .inv .4)))
+returns-2 c =
+    let l = c .before .before .loop in
+    (l .inv .0 .taken, (l .inv .0 .within, λ g. ⊎-elim (λ z. omega (arith, z, c .if1 .taken, l .inv .1 .out-long)) (λ z. z) (l .inv .0 .begun)))
 
 same-length-9 : tie.Need-same-length-9 Inv-loop μ-loop
 same-length-9 c = search needs
@@ -164,13 +197,11 @@ same-length-12 c = search needs
 
 returns-3 : tie.Need-returns-3 Inv-loop μ-loop
 returns-3 c =
-    let a = c .before .before .before .before .before .before .before .before .before .before .before .before .before .before .args in
-    let l = c .before .before .before .before .before .before .before .before .loop in
-    let h = c .before .before .before .before .hold-line in
+    let held = c .before .before .before .before in
+    let h = held .hold-line in
+    let l = body held .before .loop in
     let ends = not-true _ (c .if2 .taken) in
-    let rest = lines-rest (a .r) (a .s) (a .links .now) (a .line .now) (a .block .now) (a .from) (l .reader) (l .session) (l .links) (l .line) (l .next) (take (l .written) (l .out)) (l .inv .0) (h .result) _ (h .ensures .0) ends in
-    let whole = lines-whole (a .r) (a .s) (a .links .now) (a .line .now) (a .block .now) (a .from) (l .reader) (l .session) (l .links) (l .line) (l .next) (take (l .written) (l .out)) (l .inv .0) (h .result) _ (h .ensures .0) ends in
-    (rest, (h .ensures .1 .0, λ g. omega (arith, g, whole)))
+    (reached-held (l .inv .0) (h .result) _ (h .ensures .0) ends, (h .ensures .1 .0, λ g. omega (arith, g, reached-all (l .inv .0) (h .result) _ (h .ensures .0) ends)))
 
 pub take-lines-spec : {M : Type 1} → statement M
 take-lines-spec =

@@ -1,7 +1,7 @@
 use mathlib.Core.Path.{_∙_}
 use Rattle.lines.specs.Writing.{opening, closing, clearing}
 use Rattle.lines.specs.Reading.{bareForms}
-use Rattle.lines.proofs.Steps.{some-left, none-left, bare-told}
+use Rattle.lines.proofs.Steps.{some-left, none-left, bare-coded}
 use borrow.Author.Needs.{needs}
 use Rattle.lines.proofs.bare_forms.Statement.{statement}
 use Rattle.lines.proofs.bare_forms.Tie as tie
@@ -17,7 +17,7 @@ whole-requires c κs = search needs
 
 returns : tie.Need-returns
 unfolding bareForms
-returns c = c .whole .ensures ∙ bare-told opening (c .before .before .after-word .ensures) ∙ simp (some-left _ _ (c .before .before .after-word .ensures) (c .before .if1 .taken))
+returns c = c .whole .ensures ∙ bare-coded opening (c .before .before .after-word .ensures) ∙ simp (some-left _ _ (c .before .before .after-word .ensures) (c .before .if1 .taken))
 
 slice-aggregate-after-word-2 : tie.Need-slice-aggregate-after-word-2
 slice-aggregate-after-word-2 c = search needs
@@ -30,7 +30,7 @@ whole-requires-2 c κs = search needs
 
 returns-2 : tie.Need-returns-2
 unfolding bareForms
-returns-2 c = c .whole2 .ensures ∙ bare-told closing (c .before .before .after-word2 .ensures) ∙ simp (none-left _ _ (c .before .before .before .before .before .after-word .ensures) (c .before .before .before .before .if1 .left), some-left _ _ (c .before .before .after-word2 .ensures) (c .before .if2 .taken))
+returns-2 c = c .whole2 .ensures ∙ bare-coded closing (c .before .before .after-word2 .ensures) ∙ simp (none-left _ _ (c .before .before .before .before .before .after-word .ensures) (c .before .before .before .before .if1 .left), some-left _ _ (c .before .before .after-word2 .ensures) (c .before .if2 .taken))
 
 slice-aggregate-after-word-3 : tie.Need-slice-aggregate-after-word-3
 slice-aggregate-after-word-3 c = search needs
@@ -43,7 +43,7 @@ whole-requires-3 c κs = search needs
 
 returns-3 : tie.Need-returns-3
 unfolding bareForms
-returns-3 c = c .whole3 .ensures ∙ bare-told clearing (c .before .after-word3 .ensures) ∙ simp (none-left _ _ (c .before .before .before .before .before .before .before .after-word .ensures) (c .before .before .before .before .before .before .if1 .left), none-left _ _ (c .before .before .before .before .after-word2 .ensures) (c .before .before .before .if2 .left))
+returns-3 c = c .whole3 .ensures ∙ bare-coded clearing (c .before .after-word3 .ensures) ∙ simp (none-left _ _ (c .before .before .before .before .before .before .before .after-word .ensures) (c .before .before .before .before .before .before .if1 .left), none-left _ _ (c .before .before .before .before .after-word2 .ensures) (c .before .before .before .if2 .left))
 
 pub bare-forms-spec : {M : Type 1} → statement M
 bare-forms-spec =

@@ -1,5 +1,5 @@
 use mathlib.Core.Path.{_∙_}
-use Rattle.lines.proofs.Steps.{net-told}
+use Rattle.lines.proofs.Steps.{net-coded}
 use borrow.Author.Needs.{needs}
 use Rattle.lines.proofs.net_form.Statement.{statement}
 use Rattle.lines.proofs.net_form.Tie as tie
@@ -29,7 +29,7 @@ whole-requires : tie.Need-whole-requires
 whole-requires c κs = search needs
 
 returns : tie.Need-returns
-returns c = c .whole .ensures ∙ net-told _ (c .before .before .before .before .before .before .before .number-at .ensures) (c .before .before .before .before .before .named-at .ensures) (c .before .before .before .named-at2 .ensures) (c .before .named-at3 .ensures)
+returns c = c .whole .ensures ∙ net-coded _ (c .before .before .before .before .before .before .before .number-at .ensures) (c .before .before .before .before .before .named-at .ensures) (c .before .before .before .named-at2 .ensures) (c .before .named-at3 .ensures)
 
 pub net-form-spec : {M : Type 1} → statement M
 net-form-spec =

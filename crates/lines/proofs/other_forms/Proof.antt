@@ -1,7 +1,7 @@
 use mathlib.Core.Path.{ap, _∙_}
 use Rattle.lines.specs.Writing.{link, walk}
 use Rattle.lines.specs.Reading.{otherForms, pairNumbers}
-use Rattle.lines.proofs.Steps.{some-left, none-left, pair-told}
+use Rattle.lines.proofs.Steps.{some-left, none-left, pair-coded}
 use borrow.Author.Needs.{needs}
 use Rattle.lines.proofs.other_forms.Statement.{statement}
 use Rattle.lines.proofs.other_forms.Tie as tie
@@ -20,7 +20,7 @@ whole-requires c κs = search needs
 
 returns : tie.Need-returns
 unfolding otherForms
-returns c = c .whole .ensures ∙ pair-told link _ (c .before .pair-at .ensures ∙ ap pairNumbers (c .before .before .before .after-word .ensures)) ∙ simp (some-left _ _ (c .before .before .before .after-word .ensures) (c .before .before .if1 .taken))
+returns c = c .whole .ensures ∙ pair-coded link _ (c .before .pair-at .ensures ∙ ap pairNumbers (c .before .before .before .after-word .ensures)) ∙ simp (some-left _ _ (c .before .before .before .after-word .ensures) (c .before .before .if1 .taken))
 
 slice-aggregate-after-word-2 : tie.Need-slice-aggregate-after-word-2
 slice-aggregate-after-word-2 c = search needs
@@ -36,7 +36,7 @@ whole-requires-2 c κs = search needs
 
 returns-2 : tie.Need-returns-2
 unfolding otherForms
-returns-2 c = c .whole2 .ensures ∙ pair-told walk _ (c .before .pair-at2 .ensures ∙ ap pairNumbers (c .before .before .before .after-word2 .ensures)) ∙ simp (none-left _ _ (c .before .before .before .before .before .before .after-word .ensures) (c .before .before .before .before .before .if1 .left), some-left _ _ (c .before .before .before .after-word2 .ensures) (c .before .before .if2 .taken))
+returns-2 c = c .whole2 .ensures ∙ pair-coded walk _ (c .before .pair-at2 .ensures ∙ ap pairNumbers (c .before .before .before .after-word2 .ensures)) ∙ simp (none-left _ _ (c .before .before .before .before .before .before .after-word .ensures) (c .before .before .before .before .before .if1 .left), some-left _ _ (c .before .before .before .after-word2 .ensures) (c .before .before .if2 .taken))
 
 slice-aggregate-after-word-3 : tie.Need-slice-aggregate-after-word-3
 slice-aggregate-after-word-3 c = search needs

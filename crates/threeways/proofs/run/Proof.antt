@@ -1,16 +1,22 @@
 use native.Mathlib.Omega.{arith}
-use Prim.Native.Nat.{_≤_}
-use mathlib.Core.Path.{_≡_}
-use lib.ListN.{length}
+use mathlib.Core.Path.{_∙_}
+use Rattle.dialogue.proofs.Blocks.{Lengths, lengths-begin, lengths-again}
 use borrow.Author.Needs.{needs}
 use Rattle.threeways.proofs.run.Statement.{statement}
 use Rattle.threeways.proofs.run.Tie as tie
 
 abbrev Inv-loop : tie.InvT-loop
-Inv-loop line₀ numbers₀ links₀ out₀ reader₀ session₀ turns₀ line numbers links out reader session turns = (length line ≡ 6145) × (length line₀ ≡ 6145) × (3072 ≤ length numbers) × (length numbers ≡ length numbers₀) × (length links ≡ 8192) × (length links₀ ≡ 8192) × (8192 ≤ length out) × (length out ≡ length out₀)
+Inv-loop line₀ numbers₀ links₀ out₀ reader₀ session₀ turns₀ line numbers links out reader session turns = Lengths line₀ numbers₀ links₀ out₀ line numbers links out
 
 abbrev μ-loop : tie.MeasureT-loop
 μ-loop line₀ numbers₀ links₀ out₀ reader₀ session₀ turns₀ line numbers links out reader session turns = turns
+
+-- where a block is taken, and the loop's body
+abbrev at-take : tie.After-session Inv-loop μ-loop → tie.After-take-block Inv-loop μ-loop
+at-take c = c .before .before .before .before .before .before .before .before .before .before
+
+abbrev body : tie.After-take-block Inv-loop μ-loop → tie.In-loop Inv-loop μ-loop
+body c = c .before .before .before .before .before .before .before .before .before .before .before .before .before
 
 start-requires : tie.Need-start-requires Inv-loop μ-loop
 start-requires c κs = search needs
@@ -19,7 +25,11 @@ empty-requires : tie.Need-empty-requires Inv-loop μ-loop
 empty-requires c κs = search needs
 
 loop-holds : tie.Need-loop-holds Inv-loop μ-loop
-loop-holds c = search needs
+loop-holds c =
+    let start = c .before .before .before .before .before .before in
+    let a = start .args in
+    let p = start .pre in
+    lengths-begin (a .line .now) (a .numbers .now) (a .links .now) (a .out .now) (p .0) (p .1) (p .2) (p .3)
 
 sub-turns : tie.Need-sub-turns Inv-loop μ-loop
 sub-turns c = search needs
@@ -67,25 +77,37 @@ take-block-requires : tie.Need-take-block-requires Inv-loop μ-loop
 take-block-requires c κs = search needs
 
 same-length-5 : tie.Need-same-length-5 Inv-loop μ-loop
-same-length-5 c = omega (arith, c .before .before .before .before .before .before .before .before .before .before .before .take-block .kept .1 .1 .1 .0, c .before .before .before .before .before .before .before .before .before .before .before .before .before .before .before .before .before .before .before .before .before .before .before .before .before .loop .inv .0, c .before .before .before .before .before .before .before .before .before .before .before .before .before .before .before .before .before .before .before .before .before .before .before .before .before .loop .inv .1)
+same-length-5 c =
+    let t = at-take (c .before) in
+    t .take-block .kept .1 .1 .1 .0 ∙ body t .before .loop .inv .line-same
 
 same-length-6 : tie.Need-same-length-6 Inv-loop μ-loop
-same-length-6 c = omega (arith, c .before .before .before .before .before .before .before .before .before .before .before .take-block .kept .1 .1 .1 .1 .0, c .before .before .before .before .before .before .before .before .before .before .before .before .before .before .before .before .before .before .before .before .before .before .before .before .before .loop .inv .3)
+same-length-6 c =
+    let t = at-take (c .before) in
+    t .take-block .kept .1 .1 .1 .1 .0 ∙ body t .before .loop .inv .numbers-same
 
 same-length-7 : tie.Need-same-length-7 Inv-loop μ-loop
-same-length-7 c = omega (arith, c .before .before .before .before .before .before .before .before .before .before .before .take-block .kept .1 .1 .1 .1 .1 .0, c .before .before .before .before .before .before .before .before .before .before .before .before .before .before .before .before .before .before .before .before .before .before .before .before .before .loop .inv .4, c .before .before .before .before .before .before .before .before .before .before .before .before .before .before .before .before .before .before .before .before .before .before .before .before .before .loop .inv .5)
+same-length-7 c =
+    let t = at-take (c .before) in
+    t .take-block .kept .1 .1 .1 .1 .1 .0 ∙ body t .before .loop .inv .links-same
 
 same-length-8 : tie.Need-same-length-8 Inv-loop μ-loop
-same-length-8 c = omega (arith, c .before .before .before .before .before .before .before .before .before .before .before .take-block .kept .1 .1 .1 .1 .1 .1 .0, c .before .before .before .before .before .before .before .before .before .before .before .before .before .before .before .before .before .before .before .before .before .before .before .before .before .loop .inv .7)
+same-length-8 c =
+    let t = at-take (c .before) in
+    t .take-block .kept .1 .1 .1 .1 .1 .1 .0 ∙ body t .before .loop .inv .out-same
 
 returns-2 : tie.Need-returns-2 Inv-loop μ-loop
 returns-2 c = search needs
 
 loop-less : tie.Need-loop-less Inv-loop μ-loop
-loop-less c = omega (arith, c .before .before .before .before .before .before .before .before .before .before .before .before .before .before .before .before .before .before .before .before .before .before .before .before .loop-test .taken)
+loop-less c =
+    omega (arith, body (at-take (c .before)) .loop-test .taken)
 
 loop-again : tie.Need-loop-again Inv-loop μ-loop
-loop-again c = let k = c .before .before .before .before .before .before .before .before .before .before .before .take-block .kept .1 .1 .1 in let i = c .before .before .before .before .before .before .before .before .before .before .before .before .before .before .before .before .before .before .before .before .before .before .before .before .before .loop .inv in (omega (arith, k .0, i .0), i .1, omega (arith, k .1 .0, i .2), omega (arith, k .1 .0, i .3), omega (arith, k .1 .1 .0, i .4), i .5, omega (arith, k .1 .1 .1 .0, i .6), omega (arith, k .1 .1 .1 .0, i .7))
+loop-again c =
+    let t = at-take (c .before) in
+    let k = t .take-block .kept .1 .1 .1 in
+    lengths-again (body t .before .loop .inv) _ _ _ _ (k .0) (k .1 .0) (k .1 .1 .0) (k .1 .1 .1 .0)
 
 same-length-9 : tie.Need-same-length-9 Inv-loop μ-loop
 same-length-9 c = search needs

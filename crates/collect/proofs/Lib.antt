@@ -1,0 +1,3 @@
+pub mod Threeways
+pub mod Collecting
+pub mod LineEnds

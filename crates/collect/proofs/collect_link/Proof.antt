@@ -1,0 +1,68 @@
+use Prim.Native.Nat.{_<_, _+_, _*_}
+use native.Mathlib.Omega.{arith}
+use lib.ListN.{length, set, length-set}
+use Rattle.collect.proofs.Collecting.{link-full, link-more}
+use borrow.Author.Needs.{needs}
+use Rattle.collect.proofs.collect_link.Statement.{statement}
+use Rattle.collect.proofs.collect_link.Tie as tie
+
+unread-requires : tie.Need-unread-requires
+unread-requires c κs = search needs
+
+same-length : tie.Need-same-length
+same-length c = search needs
+
+returns : tie.Need-returns
+returns c = let a = c .before .before .before .before .before .before .before .args in link-full (a .d) (a .links .now) (a .number) (a .a) (a .b) (c .before .before .before .before .before .before .before .pre .0) _ (c .before .before .unread .result) (omega (arith, c .before .before .before .before .if1 .taken)) (c .before .before .unread .ensures)
+
+cast-i : tie.Need-cast-i
+cast-i c = search needs
+
+mul-i : tie.Need-mul-i
+mul-i c = search needs
+
+mul-links : tie.Need-mul-links
+mul-links c = search needs
+
+slice-write-links : tie.Need-slice-write-links
+slice-write-links c = search needs
+
+add-links : tie.Need-add-links
+add-links c = search needs
+
+mul-links-2 : tie.Need-mul-links-2
+mul-links-2 c = search needs
+
+slice-write-links-2 : tie.Need-slice-write-links-2
+slice-write-links-2 c = let a = c .before .before .before .args in let z : 2 * a .d .count + 1 < length (set (a .links .now) (2 * a .d .count) (a .a)) = omega (arith, c .if1 .left, c .before .before .before .pre .0, length-set (a .links .now) (2 * a .d .count) (a .a)) in z
+
+add-kept : tie.Need-add-kept
+add-kept c = search needs
+
+asking-requires : tie.Need-asking-requires
+asking-requires c κs = search needs
+
+same-length-2 : tie.Need-same-length-2
+same-length-2 c = search needs
+
+returns-2 : tie.Need-returns-2
+returns-2 c = let a = c .before .before .before .before .args in link-more (a .d) (a .links .now) (a .number) (a .a) (a .b) (c .before .before .before .before .pre .0) (a .out .now) (c .asking .result) (omega (arith, c .before .if1 .left)) (c .asking .ensures)
+
+pub collect-link-spec : {M : Type 1} → statement M
+collect-link-spec =
+    tie.close
+    (tie.spec
+    unread-requires
+    same-length
+    returns
+    cast-i
+    mul-i
+    mul-links
+    slice-write-links
+    add-links
+    mul-links-2
+    slice-write-links-2
+    add-kept
+    asking-requires
+    same-length-2
+    returns-2)

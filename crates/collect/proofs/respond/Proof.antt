@@ -1,0 +1,129 @@
+use mathlib.Core.Path.{sym, ap, _∙_}
+use Rattle.lines.specs.declared.Form.{Form}
+use Rattle.collect.specs.declared.Answered.{Answered}
+use Rattle.collect.specs.Dialogue.{respond}
+use Rattle.collect.specs.Answering.{dialogueIn, formOf, requested, effectIn, turnOf, respondTo}
+use borrow.Author.Needs.{needs}
+use Rattle.collect.proofs.respond.Statement.{statement}
+use Rattle.collect.proofs.respond.Tie as tie
+
+enum-known-form : tie.Need-enum-known-form
+enum-known-form c = search needs
+
+collect-net-requires : tie.Need-collect-net-requires
+collect-net-requires c κs = search needs
+
+enum-known-form-2 : tie.Need-enum-known-form-2
+enum-known-form-2 c = search needs
+
+collect-link-requires : tie.Need-collect-link-requires
+collect-link-requires c κs = search needs
+
+enum-told : tie.Need-enum-told
+enum-told c = search needs
+
+asking-requires : tie.Need-asking-requires
+asking-requires c κs = search needs
+
+enum-known-form-3 : tie.Need-enum-known-form-3
+enum-known-form-3 c = search needs
+
+asking-requires-2 : tie.Need-asking-requires-2
+asking-requires-2 c κs = search needs
+
+enum-told-2 : tie.Need-enum-told-2
+enum-told-2 c = search needs
+
+asking-requires-3 : tie.Need-asking-requires-3
+asking-requires-3 c κs = search needs
+
+enum-known-form-4 : tie.Need-enum-known-form-4
+enum-known-form-4 c = search needs
+
+asking-requires-4 : tie.Need-asking-requires-4
+asking-requires-4 c κs = search needs
+
+enum-told-3 : tie.Need-enum-told-3
+enum-told-3 c = search needs
+
+asking-requires-5 : tie.Need-asking-requires-5
+asking-requires-5 c κs = search needs
+
+enum-told-4 : tie.Need-enum-told-4
+enum-told-4 c = search needs
+
+unread-requires : tie.Need-unread-requires
+unread-requires c κs = search needs
+
+returns : tie.Need-returns
+unfolding respond requested respondTo
+returns c = let a = c .before .before .before .before .before .before .args in λ s numbers. ap (λ (r : Answered). turnOf s (a .number) numbers (a .links .now) (effectIn r (a .out .now))) (c .collect-net .ensures) ∙ sym (ap (λ (f : Form). respondTo (dialogueIn (a .d) s (a .links .now)) (a .number) f numbers) (c .before .before .form .given .1))
+
+same-length : tie.Need-same-length
+same-length c = search needs
+
+same-length-2 : tie.Need-same-length-2
+same-length-2 c = search needs
+
+returns-2 : tie.Need-returns-2
+unfolding respondTo
+returns-2 c = let a = c .before .before .before .before .before .before .before .before .before .before .before .before .args in λ s numbers. c .before .before .before .before .collect-link .ensures s numbers ∙ sym (ap (λ (f : Form). respondTo (dialogueIn (a .d) s (a .links .now)) (a .number) f numbers) (c .before .before .before .before .before .before .before .before .form2 .given .1))
+
+returns-3 : tie.Need-returns-3
+unfolding formOf requested respondTo
+returns-3 c = let a = c .before .before .before .before .before .args in λ s numbers. ap (λ (r : Answered). turnOf s (a .number) numbers (a .links .now) (effectIn r (a .out .now))) (c .asking .ensures) ∙ sym (ap (λ (f : Form). respondTo (dialogueIn (a .d) s (a .links .now)) (a .number) f numbers) (c .before .enum-told .given .1))
+
+returns-4 : tie.Need-returns-4
+unfolding formOf requested respondTo
+returns-4 c = let a = c .before .before .before .before .before .before .args in λ s numbers. ap (λ (r : Answered). turnOf s (a .number) numbers (a .links .now) (effectIn r (a .out .now))) (c .asking2 .ensures) ∙ sym (ap (λ (f : Form). respondTo (dialogueIn (a .d) s (a .links .now)) (a .number) f numbers) (c .before .before .form3 .given .1))
+
+returns-5 : tie.Need-returns-5
+unfolding formOf requested respondTo
+returns-5 c = let a = c .before .before .before .before .before .args in λ s numbers. ap (λ (r : Answered). turnOf s (a .number) numbers (a .links .now) (effectIn r (a .out .now))) (c .asking3 .ensures) ∙ sym (ap (λ (f : Form). respondTo (dialogueIn (a .d) s (a .links .now)) (a .number) f numbers) (c .before .enum-told2 .given .1))
+
+returns-6 : tie.Need-returns-6
+unfolding requested respondTo
+returns-6 c = let a = c .before .before .before .before .before .before .args in λ s numbers. ap (λ (r : Answered). turnOf s (a .number) numbers (a .links .now) (effectIn r (a .out .now))) (c .asking4 .ensures) ∙ sym (ap (λ (f : Form). respondTo (dialogueIn (a .d) s (a .links .now)) (a .number) f numbers) (c .before .before .form4 .given .1))
+
+returns-7 : tie.Need-returns-7
+unfolding formOf requested respondTo
+returns-7 c = let a = c .before .before .before .before .before .args in λ s numbers. ap (λ (r : Answered). turnOf s (a .number) numbers (a .links .now) (effectIn r (a .out .now))) (c .asking5 .ensures) ∙ sym (ap (λ (f : Form). respondTo (dialogueIn (a .d) s (a .links .now)) (a .number) f numbers) (c .before .enum-told3 .given .1))
+
+same-length-3 : tie.Need-same-length-3
+same-length-3 c = search needs
+
+returns-8 : tie.Need-returns-8
+unfolding respond requested respondTo
+returns-8 c = let a = c .before .before .before .before .before .before .before .before .args in λ s numbers. ap (turnOf s (a .number) numbers (a .links .now)) (c .before .before .unread .ensures) ∙ sym (ap (λ (f : Form). respondTo (dialogueIn (a .d) s (a .links .now)) (a .number) f numbers) (c .before .before .before .before .enum-told4 .given .1))
+
+pub respond-spec : {M : Type 1} → statement M
+respond-spec =
+    tie.close
+    (tie.spec
+    enum-known-form
+    collect-net-requires
+    enum-known-form-2
+    collect-link-requires
+    enum-told
+    asking-requires
+    enum-known-form-3
+    asking-requires-2
+    enum-told-2
+    asking-requires-3
+    enum-known-form-4
+    asking-requires-4
+    enum-told-3
+    asking-requires-5
+    enum-told-4
+    unread-requires
+    returns
+    same-length
+    same-length-2
+    returns-2
+    returns-3
+    returns-4
+    returns-5
+    returns-6
+    returns-7
+    same-length-3
+    returns-8)

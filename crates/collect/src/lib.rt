@@ -1,0 +1,224 @@
+// A line of the dialogue without the session: what it does to the network that is collected, what it asks of the session, and else its
+// reply. The collected links stand at the start of a slice, two numbers each; a reply is written at the start of another.
+use lines::Form;
+use session::Session;
+ghost use mathlib.Core.Path.{_≡_};
+ghost use mathlib.Core.Bool.{true, false};
+ghost use Prim.Native.Nat.{_≤_};
+ghost use lib.ListN.{length};
+ghost use Rattle.lines.specs.declared.Form.the-variants as Form·;
+ghost use Rattle.replies.specs.Replies.{unread, reply};
+ghost use Rattle.collect.specs.declared.Request.the-variants as Request·;
+ghost use Rattle.collect.specs.Answering.{freshKept, effectIn, Responds, Answers, Ends, startReader};
+
+// What is collected: the numbers of the last net line, and the count of links.
+pub struct Kept {
+    pub n: u16,
+    pub root: u16,
+    pub first: u16,
+    pub last: u16,
+    pub count: u16,
+}
+
+impl Kept {
+    // Nothing collected.
+    pub fn fresh() -> Self
+        ensures { λ r. ⌜ r ≡ freshKept ⌝ }
+    {
+        Kept {
+            n: 0,
+            root: 0,
+            first: 0,
+            last: 0,
+            count: 0,
+        }
+    }
+}
+
+// A call that gives another session; of an ear the count of its numbers.
+pub enum Call {
+    Open,
+    Ear(u16),
+    Close,
+    Clear,
+}
+
+// What a line asks of the session: nothing, the walk of a switch in a tree, or a call.
+pub enum Request {
+    Nothing,
+    Walk(u16, u16),
+    Call(Call),
+}
+
+// What a line leads to: what is collected after it, what it asks of the session, the count of the bytes of its reply, and whether no
+// more is read. A line that asks something of the session has its reply from there.
+struct Answered {
+    kept: Kept,
+    request: Request,
+    written: usize,
+    stops: bool,
+}
+
+// A line that cannot be read: no more is read.
+fn unread(d: Kept, number: u16, out: &mut [u8]) -> Answered
+    requires { ⌜ 8192 ≤ length (now out) ⌝ }
+    ensures { λ r. ⌜ effectIn r (now (out .exit)) ≡ record { kept = d; request = Request·.Nothing; printed = reply (unread number); stops = true } ⌝ }
+{
+    let written = replies::write_unread(out, number);
+    let request = Request::Nothing;
+    Answered {
+        kept: d,
+        request,
+        written,
+        stops: true,
+    }
+}
+
+// What a line leads to that prints nothing of its own.
+fn asking(kept: Kept, request: Request) -> Answered
+    ensures { λ r. ⌜ r ≡ record { kept = kept; request = request; written = 0; stops = false } ⌝ }
+{
+    Answered {
+        kept,
+        request,
+        written: 0,
+        stops: false,
+    }
+}
+
+// Collects a network's numbers.
+fn collect_net(d: Kept, n: u16, root: u16, first: u16, last: u16) -> Answered
+    ensures { λ r. ⌜ r ≡ record { kept = record { n = n; root = root; first = first; last = last; count = d .count }; request = Request·.Nothing; written = 0; stops = false } ⌝ }
+{
+    let mut kept = d;
+    kept.n = n;
+    kept.root = root;
+    kept.first = first;
+    kept.last = last;
+    asking(kept, Request::Nothing)
+}
+
+// Collects a link; one link too many is unread.
+fn collect_link(d: Kept, number: u16, a: u16, b: u16, links: &mut [u16], out: &mut [u8]) -> Answered
+    requires { ⌜ (length (now links) ≡ 8192) × (8192 ≤ length (now out)) ⌝ }
+    ensures { λ r. ⌜ Responds d (now (links .entry)) number (Form·.Link a b) r (now (links .exit)) (now (out .exit)) ⌝ }
+{
+    let count = d.count;
+    if Session::MAX_LINKS <= count {
+        return unread(d, number, out);
+    }
+    let i = 2 * (count as usize);
+    links[i] = a;
+    links[i + 1] = b;
+    let mut kept = d;
+    kept.count = count + 1;
+    asking(kept, Request::Nothing)
+}
+
+// Does what a form says that was read, but for what it asks of the session.
+fn respond(d: Kept, number: u16, form: Form, links: &mut [u16], out: &mut [u8]) -> Answered
+    requires { ⌜ (length (now links) ≡ 8192) × (8192 ≤ length (now out)) ⌝ }
+    ensures { λ r. ⌜ Responds d (now (links .entry)) number form r (now (links .exit)) (now (out .exit)) ⌝ }
+{
+    match form {
+        Form::Net(n, root, first, last) => collect_net(d, n, root, first, last),
+        Form::Link(a, b) => collect_link(d, number, a, b, links, out),
+        Form::Open => asking(d, Request::Call(Call::Open)),
+        Form::Ear(count) => asking(d, Request::Call(Call::Ear(count))),
+        Form::Close => asking(d, Request::Call(Call::Close)),
+        Form::Walk(switch, tree) => asking(d, Request::Walk(switch, tree)),
+        Form::Clear => asking(d, Request::Call(Call::Clear)),
+        Form::Unread => unread(d, number, out),
+    }
+}
+
+// Line number `number` with these bytes: what is collected after it, what it asks of the session, and else its reply.
+fn answer(
+    d: Kept,
+    number: u16,
+    bytes: &[u8],
+    numbers: &mut [u16],
+    links: &mut [u16],
+    out: &mut [u8],
+) -> Answered
+    requires { ⌜ (3072 ≤ length (now numbers)) × (length (now links) ≡ 8192) × (8192 ≤ length (now out)) ⌝ }
+    ensures { λ r. ⌜ Answers d (now (links .entry)) number (now (bytes .entry)) r (now (numbers .exit)) (now (links .exit)) (now (out .exit)) ⌝ }
+{
+    let line = lines::read_line(number, bytes, numbers);
+    let form = line.form;
+    respond(d, number, form, links, out)
+}
+
+// What is known between two bytes of an input: what is collected, the number of the line that comes, the count of its bytes so far,
+// the count of the bytes of the last reply, and whether no more is read.
+pub struct Reader {
+    pub kept: Kept,
+    pub number: u32,
+    pub held: usize,
+    pub written: usize,
+    pub stopped: bool,
+}
+
+impl Reader {
+    // Before the first byte.
+    pub fn start() -> Self
+        ensures { λ r. ⌜ r ≡ startReader ⌝ }
+    {
+        let kept = Kept::fresh();
+        Reader {
+            kept,
+            number: 1,
+            held: 0,
+            written: 0,
+            stopped: false,
+        }
+    }
+}
+
+// What is known after a line, and what the line asks of the session.
+pub struct Ending {
+    pub reader: Reader,
+    pub request: Request,
+}
+
+// No more is read: nothing changes, and there is no reply.
+fn quiet(r: Reader) -> Ending
+    ensures { λ e. ⌜ e ≡ record { reader = record { kept = r .kept; number = r .number; held = r .held; written = 0; stopped = r .stopped }; request = Request·.Nothing } ⌝ }
+{
+    let mut reader = r;
+    reader.written = 0;
+    let request = Request::Nothing;
+    Ending { reader, request }
+}
+
+// The line that is held ends: what is known after it, what it asks of the session, and else its reply.
+pub fn end_line(
+    r: Reader,
+    line: &[u8],
+    numbers: &mut [u16],
+    links: &mut [u16],
+    out: &mut [u8],
+) -> Ending
+    requires { ⌜ (3072 ≤ length (now numbers)) × (length (now links) ≡ 8192) × (8192 ≤ length (now out)) ⌝ }
+    ensures { λ e. ⌜ Ends r (now (links .entry)) (now (line .entry)) e (now (numbers .exit)) (now (links .exit)) (now (out .exit)) ⌝ }
+{
+    if r.stopped {
+        return quiet(r);
+    }
+    if 65535 < r.number {
+        return quiet(r);
+    }
+    let held = transcript::least(r.held, line.len());
+    let d = r.kept;
+    let answered = answer(d, r.number as u16, &line[..held], numbers, links, out);
+    let kept = answered.kept;
+    let request = answered.request;
+    let reader = Reader {
+        kept,
+        number: r.number + 1,
+        held: 0,
+        written: answered.written,
+        stopped: answered.stops,
+    };
+    Ending { reader, request }
+}

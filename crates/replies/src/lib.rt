@@ -1,0 +1,148 @@
+// Lines of threeways: the replies, written into a lent slice.
+// A place is an index into the slice; bytes are written from there on.
+ghost use mathlib.Core.Path.{_≡_};
+ghost use mathlib.Core.List.{_∷_, map};
+ghost use Prim.Native.Nat.{_+_, _*_, _≤_};
+ghost use lib.ListN.{length};
+ghost use Rattle.mondschein.specs.Outcome.{over};
+ghost use Rattle.lines.specs.Writing.{decimal, spaced, separated};
+ghost use Rattle.replies.specs.Replies.{head, line, reply, opened, new, refused, closed, walked, cleared, unread, Wrote};
+
+// Writes bytes from index at on, and gives the index after them.
+fn put(out: &mut [u8], at: usize, bytes: &[u8]) -> usize
+    requires { ⌜ at + length (now bytes) ≤ length (now out) ⌝ }
+    ensures { λ r. ⌜ Wrote at (now (bytes .entry)) (now (out .entry)) r (now (out .exit)) ⌝ }
+{
+    let mut next = at;
+    let mut k = 0;
+    while k < bytes.len() {
+        out[next] = bytes[k];
+        next += 1;
+        k += 1;
+    }
+    next
+}
+
+// Writes a number in decimal from index at on, and gives the index after it.
+fn put_number(out: &mut [u8], at: usize, n: u16) -> usize
+    requires { ⌜ at + length (decimal n) ≤ length (now out) ⌝ }
+    ensures { λ r. ⌜ Wrote at (decimal n) (now (out .entry)) r (now (out .exit)) ⌝ }
+{
+    if n < 10 {
+        out[at] = b'0' + n as u8;
+        return at + 1;
+    }
+    let next = put_number(out, at, n / 10);
+    out[next] = b'0' + (n % 10) as u8;
+    next + 1
+}
+
+// Writes numbers from index at on, each after one space, and gives the index after them.
+fn put_spaced(out: &mut [u8], at: usize, numbers: &[u16]) -> usize
+    requires { ⌜ at + 6 * length (now numbers) ≤ length (now out) ⌝ }
+    ensures { λ r. ⌜ Wrote at (spaced (map decimal (now (numbers .entry)))) (now (out .entry)) r (now (out .exit)) × (r ≤ at + 6 * length (now (numbers .entry))) ⌝ }
+{
+    let mut next = at;
+    let mut k = 0;
+    while k < numbers.len() {
+        let space = put(out, next, b" ");
+        next = put_number(out, space, numbers[k]);
+        k += 1;
+    }
+    next
+}
+
+// Writes numbers from index at on, one space between, and gives the index after them.
+fn put_separated(out: &mut [u8], at: usize, numbers: &[u16]) -> usize
+    requires { ⌜ at + 6 * length (now numbers) ≤ length (now out) ⌝ }
+    ensures { λ r. ⌜ Wrote at (separated (map decimal (now (numbers .entry)))) (now (out .entry)) r (now (out .exit)) × (r ≤ at + 6 * length (now (numbers .entry))) ⌝ }
+{
+    if numbers.len() == 0 {
+        return at;
+    }
+    let next = put_number(out, at, numbers[0]);
+    put_spaced(out, next, &numbers[1..])
+}
+
+// Writes the opening bracket, a word and numbers, each after one space, and gives the index after them.
+fn put_head(out: &mut [u8], word: &[u8], numbers: &[u16]) -> usize
+    requires { ⌜ 1 + length (now word) + 6 * length (now numbers) ≤ length (now out) ⌝ }
+    ensures { λ r. ⌜ Wrote 0 (head (now (word .entry)) (now (numbers .entry))) (now (out .entry)) r (now (out .exit)) × (r ≤ 1 + length (now (word .entry)) + 6 * length (now (numbers .entry))) ⌝ }
+{
+    let open = put(out, 0, b"(");
+    let next = put(out, open, word);
+    put_spaced(out, next, numbers)
+}
+
+// Writes a line of a word and numbers at the start of the slice, and gives the count of its bytes.
+fn write_line(out: &mut [u8], word: &[u8], numbers: &[u16]) -> usize
+    requires { ⌜ 3 + length (now word) + 6 * length (now numbers) ≤ length (now out) ⌝ }
+    ensures { λ r. ⌜ (r ≡ length (line ((now (word .entry)) ∷ map decimal (now (numbers .entry))))) × (now (out .exit) ≡ over (line ((now (word .entry)) ∷ map decimal (now (numbers .entry)))) (now (out .entry))) ⌝ }
+{
+    let next = put_head(out, word, numbers);
+    put(out, next, b")\n")
+}
+
+// Writes the reply to an open that loads: switches and links. Any reply but a walk has room in 32 bytes.
+pub fn write_opened(out: &mut [u8], switches: u16, links: u16) -> usize
+    requires { ⌜ 32 ≤ length (now out) ⌝ }
+    ensures { λ r. ⌜ (r ≡ length (reply (opened switches links))) × (now (out .exit) ≡ over (reply (opened switches links)) (now (out .entry))) ⌝ }
+{
+    let numbers = [switches, links];
+    write_line(out, b"opened", &numbers)
+}
+
+// Writes the reply to an ear that is accepted: its number of new switches.
+pub fn write_new(out: &mut [u8], count: u16) -> usize
+    requires { ⌜ 32 ≤ length (now out) ⌝ }
+    ensures { λ r. ⌜ (r ≡ length (reply (new count))) × (now (out .exit) ≡ over (reply (new count)) (now (out .entry))) ⌝ }
+{
+    let numbers = [count];
+    write_line(out, b"new", &numbers)
+}
+
+// Writes the reply to a call that is refused: the refusal's number and its place.
+pub fn write_refused(out: &mut [u8], number: u8, place: u16) -> usize
+    requires { ⌜ 32 ≤ length (now out) ⌝ }
+    ensures { λ r. ⌜ (r ≡ length (reply (refused number place))) × (now (out .exit) ≡ over (reply (refused number place)) (now (out .entry))) ⌝ }
+{
+    let numbers = [number as u16, place];
+    write_line(out, b"refused", &numbers)
+}
+
+// Writes the reply to a close that succeeds.
+pub fn write_closed(out: &mut [u8]) -> usize
+    requires { ⌜ 32 ≤ length (now out) ⌝ }
+    ensures { λ r. ⌜ (r ≡ length (reply closed)) × (now (out .exit) ≡ over (reply closed) (now (out .entry))) ⌝ }
+{
+    put(out, 0, b"(closed)\n")
+}
+
+// Writes the reply to a clear.
+pub fn write_cleared(out: &mut [u8]) -> usize
+    requires { ⌜ 32 ≤ length (now out) ⌝ }
+    ensures { λ r. ⌜ (r ≡ length (reply cleared)) × (now (out .exit) ≡ over (reply cleared) (now (out .entry))) ⌝ }
+{
+    put(out, 0, b"(cleared)\n")
+}
+
+// Writes the reply to a line that is no form, or to a link too many: the number of the line.
+pub fn write_unread(out: &mut [u8], number: u16) -> usize
+    requires { ⌜ 32 ≤ length (now out) ⌝ }
+    ensures { λ r. ⌜ (r ≡ length (reply (unread number))) × (now (out .exit) ≡ over (reply (unread number)) (now (out .entry))) ⌝ }
+{
+    let numbers = [number];
+    write_line(out, b"unread", &numbers)
+}
+
+// Writes the reply to a walk: its switch, its tree and its switches; 1,024 switches have room in 6,166 bytes.
+pub fn write_walk(out: &mut [u8], switch: u16, tree: u16, switches: &[u16]) -> usize
+    requires { ⌜ 22 + 6 * length (now switches) ≤ length (now out) ⌝ }
+    ensures { λ r. ⌜ (r ≡ length (reply (walked switch tree (now (switches .entry))))) × (now (out .exit) ≡ over (reply (walked switch tree (now (switches .entry)))) (now (out .entry))) ⌝ }
+{
+    let numbers = [switch, tree];
+    let next = put_head(out, &lines::WALK, &numbers);
+    let inner = put(out, next, b" (");
+    let end = put_separated(out, inner, switches);
+    put(out, end, b"))\n")
+}

@@ -1,0 +1,53 @@
+use Prim.Native.Nat.{ℕ, _*_}
+use mathlib.Core.Path.{ap, _∙_}
+use mathlib.Core.List.{List}
+use Rattle.mondschein.specs.Network.{at}
+use Rattle.network.specs.Load.{networkOf, loadAnswer}
+use Rattle.session.specs.Session.{loadedBy}
+use Rattle.replies.specs.Replies.{opened}
+use Rattle.transcript.proofs.Prefixes.{least-length, least-take}
+use Rattle.serve.proofs.Replying.{replied-call}
+use borrow.Author.Needs.{needs}
+use Rattle.serve.proofs.open.Statement.{statement}
+use Rattle.serve.proofs.open.Tie as tie
+
+cast-least : tie.Need-cast-least
+cast-least c = search needs
+
+mul-least : tie.Need-mul-least
+mul-least c = search needs
+
+least-requires : tie.Need-least-requires
+least-requires c κs = search needs
+
+slice-aggregate-load : tie.Need-slice-aggregate-load
+slice-aggregate-load c = let a = c .before .before .before .before .before .before .args in least-length (2 * a .r .kept .count) (a .links .now) (c .before .least .ensures)
+
+load-requires : tie.Need-load-requires
+load-requires c κs = search needs
+
+reply-to-load-requires : tie.Need-reply-to-load-requires
+reply-to-load-requires c κs = search needs
+
+replied-requires : tie.Need-replied-requires
+replied-requires c κs = search needs
+
+same-length : tie.Need-same-length
+same-length c = search needs
+
+returns : tie.Need-returns
+returns c = let a = c .before .before .before .before .before .before .before .before .before .before .before .before .before .args in let d = a .r .kept in replied-call (a .r) (λ vs. opened (at vs 0) (at vs 1)) _ _ _ (loadAnswer (c .before .before .before .before .before .before .load .result .answer)) (c .before .before .before .before .before .before .load .result .session) (c .replied .ensures) (c .before .before .before .before .before .before .load .ensures ∙ ap (λ (l : List ℕ). loadedBy (a .s) (networkOf (d .n) l (d .root) (d .first) (d .last))) (least-take (2 * d .count) (a .links .now) (c .before .before .before .before .before .before .before .before .least .ensures))) (c .before .before .before .reply-to-load .ensures)
+
+pub open-spec : {M : Type 1} → statement M
+open-spec =
+    tie.close
+    (tie.spec
+    cast-least
+    mul-least
+    least-requires
+    slice-aggregate-load
+    load-requires
+    reply-to-load-requires
+    replied-requires
+    same-length
+    returns)

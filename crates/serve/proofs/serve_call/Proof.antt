@@ -1,0 +1,73 @@
+use Rattle.serve.proofs.Replying.{serves-open, serves-ear, serves-close, serves-clear}
+use borrow.Author.Needs.{needs}
+use Rattle.serve.proofs.serve_call.Statement.{statement}
+use Rattle.serve.proofs.serve_call.Tie as tie
+
+enum-told : tie.Need-enum-told
+enum-told c = search needs
+
+open-requires : tie.Need-open-requires
+open-requires c κs = search needs
+
+enum-known-call : tie.Need-enum-known-call
+enum-known-call c = search needs
+
+offer-requires : tie.Need-offer-requires
+offer-requires c κs = search needs
+
+enum-told-2 : tie.Need-enum-told-2
+enum-told-2 c = search needs
+
+close-requires : tie.Need-close-requires
+close-requires c κs = search needs
+
+enum-told-3 : tie.Need-enum-told-3
+enum-told-3 c = search needs
+
+clear-requires : tie.Need-clear-requires
+clear-requires c κs = search needs
+
+same-length : tie.Need-same-length
+same-length c = search needs
+
+returns : tie.Need-returns
+returns c = let a = c .before .before .before .before .before .before .before .before .before .args in serves-open (a .numbers .now) (a .r) (a .s) (a .links .now) (c .before .before .«open» .result .reader) (c .before .before .«open» .result .session) _ (c .before .before .before .before .enum-told .given .1) (c .before .before .«open» .ensures)
+
+same-length-2 : tie.Need-same-length-2
+same-length-2 c = search needs
+
+returns-2 : tie.Need-returns-2
+returns-2 c = let a = c .before .before .before .before .before .before .before .before .before .before .args in serves-ear (a .numbers .now) (a .r) (a .s) (a .links .now) (c .before .before .offer .result .reader) (c .before .before .offer .result .session) _ _ (c .before .before .before .before .before .call .given .1) (c .before .before .offer .ensures)
+
+same-length-3 : tie.Need-same-length-3
+same-length-3 c = search needs
+
+returns-3 : tie.Need-returns-3
+returns-3 c = let a = c .before .before .before .before .before .before .before .before .before .args in serves-close (a .numbers .now) (a .r) (a .s) (a .links .now) (c .before .before .close .result .reader) (c .before .before .close .result .session) _ (c .before .before .before .before .enum-told2 .given .1) (c .before .before .close .ensures)
+
+same-length-4 : tie.Need-same-length-4
+same-length-4 c = search needs
+
+returns-4 : tie.Need-returns-4
+returns-4 c = let a = c .before .before .before .before .before .before .before .before .before .args in serves-clear (a .numbers .now) (a .r) (a .s) (a .links .now) (c .before .before .clear .result .reader) (c .before .before .clear .result .session) _ (c .before .before .before .before .enum-told3 .given .1) (c .before .before .clear .ensures)
+
+pub serve-call-spec : {M : Type 1} → statement M
+serve-call-spec =
+    tie.close
+    (tie.spec
+    enum-told
+    open-requires
+    enum-known-call
+    offer-requires
+    enum-told-2
+    close-requires
+    enum-told-3
+    clear-requires
+    same-length
+    returns
+    same-length-2
+    returns-2
+    same-length-3
+    returns-3
+    same-length-4
+    returns-4)

@@ -1,0 +1,4 @@
+pub mod Prefixes
+pub mod Transcripts
+pub mod Printing
+pub mod Holding
