@@ -14,6 +14,7 @@ use borrow.Author.Tests.{lt-ltb, le-ltb}
 use Rattle.session.specs.declared.Session.{Session}
 use Rattle.lines.specs.Writing.{Form, net, link, opening, ear, closing, walk, clearing}
 use Rattle.lines.specs.Reading.{reading}
+use Rattle.lines.specs.declared.Form.{Form as Code·Form}
 use Rattle.lines.specs.declared.Form.the-variants.{Link}
 use Rattle.lines.specs.Line.{coded, held}
 use Rattle.replies.specs.Replies.{unread, reply}
@@ -59,6 +60,13 @@ module _ (d : Kept) (links : List ℕ) (k a b : ℕ) (whole : length links ≡ 8
       ap (λ (x : Answered). turnOf s k numbers (set (set links (2 * d .count) a) (2 * d .count + 1) b) (effectIn x out)) e
       ∙ ap (λ (l : List ℕ). silent (withLinks (dialogueIn d s links) l)) (pair-taken h)
       ∙ sym (counted s true (lt-ltb (length (take (2 * d .count) links)) 8192 (omega (arith, length-take (2 * d .count) links))))
+
+-- a form leads to what its case leads to
+pub responds-as : (d : Kept) (links : List ℕ) (k : ℕ) (out : List ℕ) {form f : Code·Form} {r x : Answered} → form ≡ f → r ≡ x → Responds d links k f x links out → Responds d links k form r links out
+responds-as d links k out e q h s numbers =
+    ap (λ (y : Answered). turnOf s k numbers links (effectIn y out)) q
+    ∙ h s numbers
+    ∙ sym (ap (λ (g : Code·Form). respondTo (dialogueIn d s links) k g numbers) e)
 
 -- the form that was read, and an ear's numbers in a slice, lead to what the line leads to
 pub coded-turn : (d : Dialogue) (k : ℕ) (s numbers : List ℕ) → respondTo d k (coded (reading s)) (held (reading s) numbers) ≡ turn d k s

@@ -24,7 +24,16 @@ same-length-3 : tie.Need-same-length-3
 same-length-3 c = search needs
 
 returns : tie.Need-returns
-returns c = let a = c .before .before .before .before .before .before .before .before .before .before .before .before .before .before .before .args in λ s. let d = dialogueIn (a .d) s (a .links .now) in c .before .before .before .before .respond .ensures s _ ∙ ap₂ (λ (l : Line) (ns : List ℕ). respondTo d (a .number) (l .form) ns) (c .before .before .before .before .before .before .before .before .before .read-line .ensures .0) (c .before .before .before .before .before .before .before .before .before .read-line .ensures .1) ∙ coded-turn d (a .number) (a .bytes .now) (a .numbers .now)
+returns c =
+    let at-respond = c .before .before .before .before in
+    let at-read = at-respond .before .before .before .before .before in
+    let a = at-read .before .before .before .before .before .before .args in
+    let read = at-read .read-line .ensures in
+    λ s.
+    let d = dialogueIn (a .d) s (a .links .now) in
+    at-respond .respond .ensures s _
+    ∙ ap₂ (λ (l : Line) (ns : List ℕ). respondTo d (a .number) (l .form) ns) (read .0) (read .1)
+    ∙ coded-turn d (a .number) (a .bytes .now) (a .numbers .now)
 
 pub answer-spec : {M : Type 1} → statement M
 answer-spec =

@@ -13,7 +13,12 @@ same-length : tie.Need-same-length
 same-length c = search needs
 
 returns : tie.Need-returns
-returns c = let a = c .before .before .before .before .before .before .before .args in link-full (a .d) (a .links .now) (a .number) (a .a) (a .b) (c .before .before .before .before .before .before .before .pre .0) _ (c .before .before .unread .result) (omega (arith, c .before .before .before .before .if1 .taken)) (c .before .before .unread .ensures)
+returns c =
+    let at-unread = c .before .before in
+    let at-if = at-unread .before .before in
+    let start = at-if .before .before .before in
+    let a = start .args in
+    link-full (a .d) (a .links .now) (a .number) (a .a) (a .b) (start .pre .0) _ (at-unread .unread .result) (omega (arith, at-if .if1 .taken)) (at-unread .unread .ensures)
 
 cast-i : tie.Need-cast-i
 cast-i c = search needs
@@ -34,7 +39,12 @@ mul-links-2 : tie.Need-mul-links-2
 mul-links-2 c = search needs
 
 slice-write-links-2 : tie.Need-slice-write-links-2
-slice-write-links-2 c = let a = c .before .before .before .args in let z : 2 * a .d .count + 1 < length (set (a .links .now) (2 * a .d .count) (a .a)) = omega (arith, c .if1 .left, c .before .before .before .pre .0, length-set (a .links .now) (2 * a .d .count) (a .a)) in z
+slice-write-links-2 c =
+    let start = c .before .before .before in
+    let a = start .args in
+    let i = 2 * a .d .count in
+    let z : i + 1 < length (set (a .links .now) i (a .a)) = omega (arith, c .if1 .left, start .pre .0, length-set (a .links .now) i (a .a)) in
+    z
 
 add-kept : tie.Need-add-kept
 add-kept c = search needs
@@ -46,7 +56,10 @@ same-length-2 : tie.Need-same-length-2
 same-length-2 c = search needs
 
 returns-2 : tie.Need-returns-2
-returns-2 c = let a = c .before .before .before .before .args in link-more (a .d) (a .links .now) (a .number) (a .a) (a .b) (c .before .before .before .before .pre .0) (a .out .now) (c .asking .result) (omega (arith, c .before .if1 .left)) (c .asking .ensures)
+returns-2 c =
+    let start = c .before .before .before .before in
+    let a = start .args in
+    link-more (a .d) (a .links .now) (a .number) (a .a) (a .b) (start .pre .0) (a .out .now) (c .asking .result) (omega (arith, c .before .if1 .left)) (c .asking .ensures)
 
 pub collect-link-spec : {M : Type 1} → statement M
 collect-link-spec =

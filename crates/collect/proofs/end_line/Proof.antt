@@ -10,13 +10,19 @@ quiet-requires : tie.Need-quiet-requires
 quiet-requires c κs = search needs
 
 returns : tie.Need-returns
-returns c = let a = c .before .before .before .before .before .before .args in end-quiet (a .r) (a .links .now) (a .line .now) _ (a .out .now) (c .quiet .result) (or-left _ _ (c .before .if1 .taken)) (c .quiet .ensures)
+returns c =
+    let at-if = c .before in
+    let a = at-if .before .before .before .before .before .args in
+    end-quiet (a .r) (a .links .now) (a .line .now) _ (a .out .now) (c .quiet .result) (or-left _ _ (at-if .if1 .taken)) (c .quiet .ensures)
 
 quiet-requires-2 : tie.Need-quiet-requires-2
 quiet-requires-2 c κs = search needs
 
 returns-2 : tie.Need-returns-2
-returns-2 c = let a = c .before .before .before .before .before .before .before .before .args in end-quiet (a .r) (a .links .now) (a .line .now) _ (a .out .now) (c .quiet2 .result) (true-or (a .r .stopped) _ (lt-ltb _ _ (c .before .if2 .taken))) (c .quiet2 .ensures)
+returns-2 c =
+    let at-if = c .before in
+    let a = at-if .before .before .before .before .before .before .before .args in
+    end-quiet (a .r) (a .links .now) (a .line .now) _ (a .out .now) (c .quiet2 .result) (true-or (a .r .stopped) _ (lt-ltb _ _ (at-if .if2 .taken))) (c .quiet2 .ensures)
 
 least-requires : tie.Need-least-requires
 least-requires c κs = search needs
@@ -25,7 +31,10 @@ cast-answer : tie.Need-cast-answer
 cast-answer c = search needs
 
 slice-aggregate-answer : tie.Need-slice-aggregate-answer
-slice-aggregate-answer c = let a = c .before .before .before .before .before .before .before .before .before .before .before .args in least-length (a .r .held) (a .line .now) (c .before .before .before .least .ensures)
+slice-aggregate-answer c =
+    let at-least = c .before .before .before in
+    let a = at-least .before .before .before .before .before .before .before .before .args in
+    least-length (a .r .held) (a .line .now) (at-least .least .ensures)
 
 answer-requires : tie.Need-answer-requires
 answer-requires c κs = search needs
@@ -43,7 +52,14 @@ same-length-3 : tie.Need-same-length-3
 same-length-3 c = search needs
 
 returns-3 : tie.Need-returns-3
-returns-3 c = let a = c .before .before .before .before .before .before .before .before .before .before .before .before .before .before .before .before .before .before .before .before .before .before .before .args in end-turn (a .r) (a .links .now) (a .line .now) _ _ _ (c .before .before .before .before .before .before .before .before .answer .result) (false-or _ _ (c .before .before .before .before .before .before .before .before .before .before .before .before .before .before .before .before .before .before .if1 .left) (le-ltb _ _ (c .before .before .before .before .before .before .before .before .before .before .before .before .before .before .before .before .if2 .left))) (c .before .before .before .before .before .before .before .before .before .before .before .before .before .before .before .least .ensures) (c .before .before .before .before .before .before .before .before .answer .ensures)
+returns-3 c =
+    let at-answer = c .before .before .before .before .before .before .before .before in
+    let at-least = at-answer .before .before .before .before .before .before .before in
+    let at-if2 = at-least .before in
+    let at-if1 = at-if2 .before .before in
+    let a = at-if1 .before .before .before .before .before .args in
+    let read = false-or _ _ (at-if1 .if1 .left) (le-ltb _ _ (at-if2 .if2 .left)) in
+    end-turn (a .r) (a .links .now) (a .line .now) _ _ _ (at-answer .answer .result) read (at-least .least .ensures) (at-answer .answer .ensures)
 
 pub end-line-spec : {M : Type 1} → statement M
 end-line-spec =

@@ -1,8 +1,8 @@
-use mathlib.Core.Path.{sym, ap, _∙_}
+use mathlib.Core.Path.{refl, sym, ap, _∙_}
 use Rattle.lines.specs.declared.Form.{Form}
-use Rattle.collect.specs.declared.Answered.{Answered}
 use Rattle.collect.specs.Dialogue.{respond}
-use Rattle.collect.specs.Answering.{dialogueIn, formOf, requested, effectIn, turnOf, respondTo}
+use Rattle.collect.specs.Answering.{dialogueIn, formOf, requested, turnOf, respondTo}
+use Rattle.collect.proofs.Collecting.{responds-as}
 use borrow.Author.Needs.{needs}
 use Rattle.collect.proofs.respond.Statement.{statement}
 use Rattle.collect.proofs.respond.Tie as tie
@@ -57,7 +57,10 @@ unread-requires c κs = search needs
 
 returns : tie.Need-returns
 unfolding respond requested respondTo
-returns c = let a = c .before .before .before .before .before .before .args in λ s numbers. ap (λ (r : Answered). turnOf s (a .number) numbers (a .links .now) (effectIn r (a .out .now))) (c .collect-net .ensures) ∙ sym (ap (λ (f : Form). respondTo (dialogueIn (a .d) s (a .links .now)) (a .number) f numbers) (c .before .before .form .given .1))
+returns c =
+    let read = c .before .before in
+    let a = read .before .before .before .before .args in
+    responds-as (a .d) (a .links .now) (a .number) (a .out .now) (read .form .given .1) (c .collect-net .ensures) (λ s numbers. refl)
 
 same-length : tie.Need-same-length
 same-length c = search needs
@@ -67,34 +70,61 @@ same-length-2 c = search needs
 
 returns-2 : tie.Need-returns-2
 unfolding respondTo
-returns-2 c = let a = c .before .before .before .before .before .before .before .before .before .before .before .before .args in λ s numbers. c .before .before .before .before .collect-link .ensures s numbers ∙ sym (ap (λ (f : Form). respondTo (dialogueIn (a .d) s (a .links .now)) (a .number) f numbers) (c .before .before .before .before .before .before .before .before .form2 .given .1))
+returns-2 c =
+    let at-collect = c .before .before .before .before in
+    let read = at-collect .before .before .before .before in
+    let a = read .before .before .before .before .args in
+    λ s numbers.
+    at-collect .collect-link .ensures s numbers
+    ∙ sym (ap (λ (f : Form). respondTo (dialogueIn (a .d) s (a .links .now)) (a .number) f numbers) (read .form2 .given .1))
 
 returns-3 : tie.Need-returns-3
 unfolding formOf requested respondTo
-returns-3 c = let a = c .before .before .before .before .before .args in λ s numbers. ap (λ (r : Answered). turnOf s (a .number) numbers (a .links .now) (effectIn r (a .out .now))) (c .asking .ensures) ∙ sym (ap (λ (f : Form). respondTo (dialogueIn (a .d) s (a .links .now)) (a .number) f numbers) (c .before .enum-told .given .1))
+returns-3 c =
+    let read = c .before in
+    let a = read .before .before .before .before .args in
+    responds-as (a .d) (a .links .now) (a .number) (a .out .now) (read .enum-told .given .1) (c .asking .ensures) (λ s numbers. refl)
 
 returns-4 : tie.Need-returns-4
 unfolding formOf requested respondTo
-returns-4 c = let a = c .before .before .before .before .before .before .args in λ s numbers. ap (λ (r : Answered). turnOf s (a .number) numbers (a .links .now) (effectIn r (a .out .now))) (c .asking2 .ensures) ∙ sym (ap (λ (f : Form). respondTo (dialogueIn (a .d) s (a .links .now)) (a .number) f numbers) (c .before .before .form3 .given .1))
+returns-4 c =
+    let read = c .before .before in
+    let a = read .before .before .before .before .args in
+    responds-as (a .d) (a .links .now) (a .number) (a .out .now) (read .form3 .given .1) (c .asking2 .ensures) (λ s numbers. refl)
 
 returns-5 : tie.Need-returns-5
 unfolding formOf requested respondTo
-returns-5 c = let a = c .before .before .before .before .before .args in λ s numbers. ap (λ (r : Answered). turnOf s (a .number) numbers (a .links .now) (effectIn r (a .out .now))) (c .asking3 .ensures) ∙ sym (ap (λ (f : Form). respondTo (dialogueIn (a .d) s (a .links .now)) (a .number) f numbers) (c .before .enum-told2 .given .1))
+returns-5 c =
+    let read = c .before in
+    let a = read .before .before .before .before .args in
+    responds-as (a .d) (a .links .now) (a .number) (a .out .now) (read .enum-told2 .given .1) (c .asking3 .ensures) (λ s numbers. refl)
 
 returns-6 : tie.Need-returns-6
 unfolding requested respondTo
-returns-6 c = let a = c .before .before .before .before .before .before .args in λ s numbers. ap (λ (r : Answered). turnOf s (a .number) numbers (a .links .now) (effectIn r (a .out .now))) (c .asking4 .ensures) ∙ sym (ap (λ (f : Form). respondTo (dialogueIn (a .d) s (a .links .now)) (a .number) f numbers) (c .before .before .form4 .given .1))
+returns-6 c =
+    let read = c .before .before in
+    let a = read .before .before .before .before .args in
+    responds-as (a .d) (a .links .now) (a .number) (a .out .now) (read .form4 .given .1) (c .asking4 .ensures) (λ s numbers. refl)
 
 returns-7 : tie.Need-returns-7
 unfolding formOf requested respondTo
-returns-7 c = let a = c .before .before .before .before .before .args in λ s numbers. ap (λ (r : Answered). turnOf s (a .number) numbers (a .links .now) (effectIn r (a .out .now))) (c .asking5 .ensures) ∙ sym (ap (λ (f : Form). respondTo (dialogueIn (a .d) s (a .links .now)) (a .number) f numbers) (c .before .enum-told3 .given .1))
+returns-7 c =
+    let read = c .before in
+    let a = read .before .before .before .before .args in
+    responds-as (a .d) (a .links .now) (a .number) (a .out .now) (read .enum-told3 .given .1) (c .asking5 .ensures) (λ s numbers. refl)
 
 same-length-3 : tie.Need-same-length-3
 same-length-3 c = search needs
 
 returns-8 : tie.Need-returns-8
 unfolding respond requested respondTo
-returns-8 c = let a = c .before .before .before .before .before .before .before .before .args in λ s numbers. ap (turnOf s (a .number) numbers (a .links .now)) (c .before .before .unread .ensures) ∙ sym (ap (λ (f : Form). respondTo (dialogueIn (a .d) s (a .links .now)) (a .number) f numbers) (c .before .before .before .before .enum-told4 .given .1))
+returns-8 c =
+    let at-unread = c .before .before in
+    let read = at-unread .before .before in
+    let a = read .before .before .before .before .args in
+    λ s numbers.
+    ap (turnOf s (a .number) numbers (a .links .now)) (at-unread .unread .ensures)
+    ∙ sym (ap (λ (f : Form). respondTo (dialogueIn (a .d) s (a .links .now)) (a .number) f numbers) (read .enum-told4 .given .1))
 
 pub respond-spec : {M : Type 1} → statement M
 respond-spec =

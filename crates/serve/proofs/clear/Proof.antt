@@ -2,6 +2,7 @@ use mathlib.Core.Path.{ap₂, _∙_}
 use Rattle.session.specs.declared.Session.{Session}
 use Rattle.replies.specs.Replies.{cleared}
 use Rattle.collect.specs.declared.Kept.{Kept}
+use Rattle.collect.specs.declared.Reader.{Reader}
 use Rattle.serve.specs.Serving.{repliedBy}
 use Rattle.serve.proofs.Replying.{replied-with}
 use borrow.Author.Needs.{needs}
@@ -24,7 +25,13 @@ same-length : tie.Need-same-length
 same-length c = search needs
 
 returns : tie.Need-returns
-returns c = let r = c .before .before .before .before .before .before .before .before .args .r in replied-with (record { kept = c .before .before .fresh .result; number = r .number; held = r .held; written = r .written; stopped = r .stopped }) (c .empty .result) cleared _ _ _ (c .before .replied .ensures) (c .before .before .before .before .before .write-cleared .ensures) ∙ ap₂ (λ (k : Kept) (z : Session). repliedBy r k z cleared) (c .before .before .fresh .ensures) (c .empty .ensures)
+returns c =
+    let at-fresh = c .before .before in
+    let at-write = at-fresh .before .before .before in
+    let r = at-write .before .before .before .args .r in
+    let dropped : Reader = record { kept = at-fresh .fresh .result; number = r .number; held = r .held; written = r .written; stopped = r .stopped } in
+    replied-with dropped (c .empty .result) cleared _ _ _ (c .before .replied .ensures) (at-write .write-cleared .ensures)
+    ∙ ap₂ (λ (k : Kept) (z : Session). repliedBy r k z cleared) (at-fresh .fresh .ensures) (c .empty .ensures)
 
 pub clear-spec : {M : Type 1} → statement M
 clear-spec =

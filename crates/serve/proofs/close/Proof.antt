@@ -18,7 +18,11 @@ same-length : tie.Need-same-length
 same-length c = search needs
 
 returns : tie.Need-returns
-returns c = replied-call (c .before .before .before .before .before .before .before .before .args .r) (λ vs. closed) _ _ _ (closeAnswer (c .before .before .before .before .before .before .close .result .answer)) (c .before .before .before .before .before .before .close .result .session) (c .replied .ensures) (c .before .before .before .before .before .before .close .ensures) (c .before .before .before .reply-to-close .ensures)
+returns c =
+    let at-reply = c .before .before .before in
+    let at-close = at-reply .before .before .before in
+    let r = at-close .before .before .args .r in
+    replied-call r (λ vs. closed) _ _ _ (closeAnswer (at-close .close .result .answer)) (at-close .close .result .session) (c .replied .ensures) (at-close .close .ensures) (at-reply .reply-to-close .ensures)
 
 pub close-spec : {M : Type 1} → statement M
 close-spec =

@@ -13,7 +13,10 @@ least-requires : tie.Need-least-requires
 least-requires c κs = search needs
 
 slice-aggregate-ear : tie.Need-slice-aggregate-ear
-slice-aggregate-ear c = let a = c .before .before .before .before .args in least-length (a .count) (a .numbers .now) (c .before .least .ensures)
+slice-aggregate-ear c =
+    let at-least = c .before in
+    let a = at-least .before .before .before .args in
+    least-length (a .count) (a .numbers .now) (at-least .least .ensures)
 
 ear-requires : tie.Need-ear-requires
 ear-requires c κs = search needs
@@ -28,7 +31,14 @@ same-length : tie.Need-same-length
 same-length c = search needs
 
 returns : tie.Need-returns
-returns c = let a = c .before .before .before .before .before .before .before .before .before .before .before .args in replied-call (a .r) (λ vs. new (at vs 0)) _ _ _ (earAnswer (c .before .before .before .before .before .before .ear .result .answer)) (c .before .before .before .before .before .before .ear .result .session) (c .replied .ensures) (c .before .before .before .before .before .before .ear .ensures ∙ ap (offeredBy (a .s)) (least-take (a .count) (a .numbers .now) (c .before .before .before .before .before .before .before .before .least .ensures))) (c .before .before .before .reply-to-ear .ensures)
+returns c =
+    let at-reply = c .before .before .before in
+    let at-ear = at-reply .before .before .before in
+    let at-least = at-ear .before .before in
+    let a = at-least .before .before .before .args in
+    replied-call (a .r) (λ vs. new (at vs 0)) _ _ _ (earAnswer (at-ear .ear .result .answer)) (at-ear .ear .result .session) (c .replied .ensures)
+    (at-ear .ear .ensures ∙ ap (offeredBy (a .s)) (least-take (a .count) (a .numbers .now) (at-least .least .ensures)))
+    (at-reply .reply-to-ear .ensures)
 
 pub offer-spec : {M : Type 1} → statement M
 offer-spec =

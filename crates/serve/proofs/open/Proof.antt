@@ -3,6 +3,8 @@ use mathlib.Core.Path.{ap, _∙_}
 use mathlib.Core.List.{List}
 use Rattle.mondschein.specs.Network.{at}
 use Rattle.network.specs.Load.{networkOf, loadAnswer}
+use Rattle.mondschein.specs.Outcome.{Outcome}
+use Rattle.session.specs.declared.Session.{Session}
 use Rattle.session.specs.Session.{loadedBy}
 use Rattle.replies.specs.Replies.{opened}
 use Rattle.transcript.proofs.Prefixes.{least-length, least-take}
@@ -21,7 +23,10 @@ least-requires : tie.Need-least-requires
 least-requires c κs = search needs
 
 slice-aggregate-load : tie.Need-slice-aggregate-load
-slice-aggregate-load c = let a = c .before .before .before .before .before .before .args in least-length (2 * a .r .kept .count) (a .links .now) (c .before .least .ensures)
+slice-aggregate-load c =
+    let at-least = c .before in
+    let a = at-least .before .before .before .before .before .args in
+    least-length (2 * a .r .kept .count) (a .links .now) (at-least .least .ensures)
 
 load-requires : tie.Need-load-requires
 load-requires c κs = search needs
@@ -36,7 +41,16 @@ same-length : tie.Need-same-length
 same-length c = search needs
 
 returns : tie.Need-returns
-returns c = let a = c .before .before .before .before .before .before .before .before .before .before .before .before .before .args in let d = a .r .kept in replied-call (a .r) (λ vs. opened (at vs 0) (at vs 1)) _ _ _ (loadAnswer (c .before .before .before .before .before .before .load .result .answer)) (c .before .before .before .before .before .before .load .result .session) (c .replied .ensures) (c .before .before .before .before .before .before .load .ensures ∙ ap (λ (l : List ℕ). loadedBy (a .s) (networkOf (d .n) l (d .root) (d .first) (d .last))) (least-take (2 * d .count) (a .links .now) (c .before .before .before .before .before .before .before .before .least .ensures))) (c .before .before .before .reply-to-load .ensures)
+returns c =
+    let at-reply = c .before .before .before in
+    let at-load = at-reply .before .before .before in
+    let at-least = at-load .before .before in
+    let a = at-least .before .before .before .before .before .args in
+    let d = a .r .kept in
+    let loads : List ℕ → Outcome Session = λ l. loadedBy (a .s) (networkOf (d .n) l (d .root) (d .first) (d .last)) in
+    replied-call (a .r) (λ vs. opened (at vs 0) (at vs 1)) _ _ _ (loadAnswer (at-load .load .result .answer)) (at-load .load .result .session) (c .replied .ensures)
+    (at-load .load .ensures ∙ ap loads (least-take (2 * d .count) (a .links .now) (at-least .least .ensures)))
+    (at-reply .reply-to-load .ensures)
 
 pub open-spec : {M : Type 1} → statement M
 open-spec =

@@ -5,7 +5,7 @@ use lib.ListN.{length, take}
 use Rattle.mondschein.specs.Network.{at}
 use Rattle.walks.specs.declared.Walk.{Walk}
 use Rattle.walks.specs.Walks.{walkAnswer}
-use Rattle.replies.specs.Replies.{walked}
+use Rattle.replies.specs.Replies.{Reply, walked}
 use Rattle.collect.specs.Dialogue.{replyTo}
 use Rattle.transcript.proofs.Prefixes.{least-length, least-take}
 use Rattle.serve.proofs.Replying.{printed-as}
@@ -23,10 +23,18 @@ least-requires : tie.Need-least-requires
 least-requires c κs = search needs
 
 slice-aggregate-write-walk : tie.Need-slice-aggregate-write-walk
-slice-aggregate-write-walk c = let a = c .before .before .before .before .before .before .before .before .args in least-length _ (a .route .now) (c .before .before .least .ensures)
+slice-aggregate-write-walk c =
+    let at-least = c .before .before in
+    least-length _ (at-least .before .before .before .before .before .before .args .route .now) (at-least .least .ensures)
 
 write-walk-requires : tie.Need-write-walk-requires
-write-walk-requires c κs = let a = c .before .before .before .before .before .before .before .before .args in let z : 22 + 6 * length (take (c .before .before .least .result) (a .route .now)) ≤ length (a .out .now) = omega (arith, c .before .before .before .before .before .before .before .before .pre .0, c .before .before .before .before .before .before .before .before .pre .1, c .before .before .least .ensures, least-length _ (a .route .now) (c .before .before .least .ensures)) in z
+write-walk-requires c κs =
+    let at-least = c .before .before in
+    let start = at-least .before .before .before .before .before .before in
+    let a = start .args in
+    let shown = least-length _ (a .route .now) (at-least .least .ensures) in
+    let z : 22 + 6 * length (take (at-least .least .result) (a .route .now)) ≤ length (a .out .now) = omega (arith, start .pre .0, start .pre .1, at-least .least .ensures, shown) in
+    z
 
 enum-known-answer-2 : tie.Need-enum-known-answer-2
 enum-known-answer-2 c = search needs
@@ -39,14 +47,27 @@ same-length c = search needs
 
 returns : tie.Need-returns
 unfolding replyTo
-returns c = let a = c .before .before .before .before .before .before .before .before .before .before .before .args in printed-as _ _ _ (ap (λ (w : Walk). replyTo (λ vs. walked (a .switch) (a .tree) (take (at vs 0) (a .route .now))) (walkAnswer w)) (c .before .before .before .before .before .before .before .answer .given .1) ∙ ap (walked (a .switch) (a .tree)) (sym (least-take _ (a .route .now) (c .before .before .before .before .before .least .ensures)))) (c .before .before .write-walk .ensures)
+returns c =
+    let at-write = c .before .before in
+    let at-least = at-write .before .before .before in
+    let at-match = at-least .before .before in
+    let a = at-match .before .before .before .before .args in
+    let reply : Walk → Reply = λ w. replyTo (λ vs. walked (a .switch) (a .tree) (take (at vs 0) (a .route .now))) (walkAnswer w) in
+    printed-as _ _ _
+    (ap reply (at-match .answer .given .1) ∙ ap (walked (a .switch) (a .tree)) (sym (least-take _ (a .route .now) (at-least .least .ensures))))
+    (at-write .write-walk .ensures)
 
 same-length-2 : tie.Need-same-length-2
 same-length-2 c = search needs
 
 returns-2 : tie.Need-returns-2
 unfolding replyTo
-returns-2 c = let a = c .before .before .before .before .before .before .before .before .before .args in printed-as _ _ _ (ap (λ (w : Walk). replyTo (λ vs. walked (a .switch) (a .tree) (take (at vs 0) (a .route .now))) (walkAnswer w)) (c .before .before .before .before .before .answer2 .given .1)) (c .before .before .write-refused .ensures)
+returns-2 c =
+    let at-write = c .before .before in
+    let at-match = at-write .before .before .before in
+    let a = at-match .before .before .before .before .args in
+    let reply : Walk → Reply = λ w. replyTo (λ vs. walked (a .switch) (a .tree) (take (at vs 0) (a .route .now))) (walkAnswer w) in
+    printed-as _ _ _ (ap reply (at-match .answer2 .given .1)) (at-write .write-refused .ensures)
 
 pub reply-to-walk-spec : {M : Type 1} → statement M
 reply-to-walk-spec =

@@ -31,25 +31,45 @@ same-length : tie.Need-same-length
 same-length c = search needs
 
 returns : tie.Need-returns
-returns c = let a = c .before .before .before .before .before .before .before .before .before .args in serves-open (a .numbers .now) (a .r) (a .s) (a .links .now) (c .before .before .«open» .result .reader) (c .before .before .«open» .result .session) _ (c .before .before .before .before .enum-told .given .1) (c .before .before .«open» .ensures)
+returns c =
+    let called = c .before .before in
+    let asked = called .before .before in
+    let a = asked .before .before .before .before .before .args in
+    let k = called .«open» in
+    serves-open (a .numbers .now) (a .r) (a .s) (a .links .now) (k .result .reader) (k .result .session) _ (asked .enum-told .given .1) (k .ensures)
 
 same-length-2 : tie.Need-same-length-2
 same-length-2 c = search needs
 
 returns-2 : tie.Need-returns-2
-returns-2 c = let a = c .before .before .before .before .before .before .before .before .before .before .args in serves-ear (a .numbers .now) (a .r) (a .s) (a .links .now) (c .before .before .offer .result .reader) (c .before .before .offer .result .session) _ _ (c .before .before .before .before .before .call .given .1) (c .before .before .offer .ensures)
+returns-2 c =
+    let called = c .before .before in
+    let asked = called .before .before .before in
+    let a = asked .before .before .before .before .before .args in
+    let k = called .offer in
+    serves-ear (a .numbers .now) (a .r) (a .s) (a .links .now) (k .result .reader) (k .result .session) _ _ (asked .call .given .1) (k .ensures)
 
 same-length-3 : tie.Need-same-length-3
 same-length-3 c = search needs
 
 returns-3 : tie.Need-returns-3
-returns-3 c = let a = c .before .before .before .before .before .before .before .before .before .args in serves-close (a .numbers .now) (a .r) (a .s) (a .links .now) (c .before .before .close .result .reader) (c .before .before .close .result .session) _ (c .before .before .before .before .enum-told2 .given .1) (c .before .before .close .ensures)
+returns-3 c =
+    let called = c .before .before in
+    let asked = called .before .before in
+    let a = asked .before .before .before .before .before .args in
+    let k = called .close in
+    serves-close (a .numbers .now) (a .r) (a .s) (a .links .now) (k .result .reader) (k .result .session) _ (asked .enum-told2 .given .1) (k .ensures)
 
 same-length-4 : tie.Need-same-length-4
 same-length-4 c = search needs
 
 returns-4 : tie.Need-returns-4
-returns-4 c = let a = c .before .before .before .before .before .before .before .before .before .args in serves-clear (a .numbers .now) (a .r) (a .s) (a .links .now) (c .before .before .clear .result .reader) (c .before .before .clear .result .session) _ (c .before .before .before .before .enum-told3 .given .1) (c .before .before .clear .ensures)
+returns-4 c =
+    let called = c .before .before in
+    let asked = called .before .before in
+    let a = asked .before .before .before .before .before .args in
+    let k = called .clear in
+    serves-clear (a .numbers .now) (a .r) (a .s) (a .links .now) (k .result .reader) (k .result .session) _ (asked .enum-told3 .given .1) (k .ensures)
 
 pub serve-call-spec : {M : Type 1} → statement M
 serve-call-spec =

@@ -31,7 +31,14 @@ same-length c = search needs
 
 returns : tie.Need-returns
 unfolding respond requested
-returns c = let a = c .before .before .before .before .before .before .before .before .before .before .args in let o = walkedBy (a .s) (a .switch) (a .tree) (replicate 1024 0) in λ numbers links. serves-replied (Walk (a .switch) (a .tree)) numbers (a .r) (a .s) links (c .replied .result) (a .s) _ (a .r .kept) (a .s) (replyTo (λ vs. walked (a .switch) (a .tree) (take (at vs 0) (o .after))) (o .answer)) (λ own. refl) (replied-walk (a .r) (a .s) (a .switch) (a .tree) o _ _ _ (c .replied .ensures) (c .before .before .before .before .before .before .before .walk .ensures .0) (c .before .before .before .before .before .before .before .walk .ensures .1) (c .before .before .before .reply-to-walk .ensures))
+returns c =
+    let at-reply = c .before .before .before in
+    let at-walk = at-reply .before .before .before .before in
+    let a = at-walk .before .before .before .args in
+    let o = walkedBy (a .s) (a .switch) (a .tree) (replicate 1024 0) in
+    let w = replyTo (λ vs. walked (a .switch) (a .tree) (take (at vs 0) (o .after))) (o .answer) in
+    let replied = replied-walk (a .r) (a .s) (a .switch) (a .tree) o _ _ _ (c .replied .ensures) (at-walk .walk .ensures .0) (at-walk .walk .ensures .1) (at-reply .reply-to-walk .ensures) in
+    λ numbers links. serves-replied (Walk (a .switch) (a .tree)) numbers (a .r) (a .s) links (c .replied .result) (a .s) _ (a .r .kept) (a .s) w (λ own. refl) replied
 
 pub serve-walk-spec : {M : Type 1} → statement M
 serve-walk-spec =

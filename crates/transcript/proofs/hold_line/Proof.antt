@@ -16,7 +16,9 @@ abbrev μ-loop : tie.MeasureT-loop
 μ-loop line₀ held block from count₀ i₀ line count i = length block - i
 
 loop-holds : tie.Need-loop-holds Inv-loop μ-loop
-loop-holds c = (omega arith, c .before .before .pre .1, c .before .before .pre .0, c .before .before .pre .0, refl)
+loop-holds c =
+    let p = c .before .before .pre in
+    (omega arith, p .1, p .0, p .0, refl)
 
 shared-slice-read-byte : tie.Need-shared-slice-read-byte Inv-loop μ-loop
 shared-slice-read-byte c = search needs
@@ -28,7 +30,12 @@ same-length : tie.Need-same-length Inv-loop μ-loop
 same-length c = search needs
 
 returns : tie.Need-returns Inv-loop μ-loop
-returns c = let a = c .before .before .before .before .before .before .args in let l = c .before .before .before .loop in ((held-feed (take (l .count) (l .line)) (a .block .now) (l .i) (c .before .before .loop-test .taken) (c .if1 .taken) ∙ sym (l .inv .4)), (omega arith, λ _. omega arith))
+returns c =
+    let at-test = c .before .before in
+    let block = at-test .before .before .before .before .args .block .now in
+    let l = at-test .before .loop in
+    let feed = held-feed (take (l .count) (l .line)) block (l .i) (at-test .loop-test .taken) (c .if1 .taken) in
+    (feed ∙ sym (l .inv .4), (omega arith, λ _. omega arith))
 
 hold-requires : tie.Need-hold-requires Inv-loop μ-loop
 hold-requires c κs = search needs
@@ -40,13 +47,25 @@ loop-less : tie.Need-loop-less Inv-loop μ-loop
 loop-less c = search needs
 
 loop-again : tie.Need-loop-again Inv-loop μ-loop
-loop-again c = let a = c .before .before .before .before .before .before .before .before .before .before .args in let l = c .before .before .before .before .before .before .before .loop in (omega arith, omega arith, search needs, l .inv .3, l .inv .4 ∙ held-byte (take (l .count) (l .line)) (a .block .now) (l .i) (c .before .before .before .before .before .before .loop-test .taken) (c .before .before .before .before .if1 .left) ∙ ap (λ (x : List ℕ). heldLine x (drop (l .i + 1) (a .block .now))) (sym (c .before .before .hold .ensures)))
+loop-again c =
+    let at-hold = c .before .before in
+    let at-if = at-hold .before .before in
+    let at-test = at-if .before .before in
+    let block = at-test .before .before .before .before .args .block .now in
+    let l = at-test .before .loop in
+    let byte = held-byte (take (l .count) (l .line)) block (l .i) (at-test .loop-test .taken) (at-if .if1 .left) in
+    let more = ap (λ (x : List ℕ). heldLine x (drop (l .i + 1) block)) (sym (at-hold .hold .ensures)) in
+    (omega arith, omega arith, search needs, l .inv .3, l .inv .4 ∙ byte ∙ more)
 
 same-length-2 : tie.Need-same-length-2 Inv-loop μ-loop
 same-length-2 c = search needs
 
 returns-2 : tie.Need-returns-2 Inv-loop μ-loop
-returns-2 c = let a = c .before .before .before .before .args in let l = c .before .loop in ((held-end (take (l .count) (l .line)) (a .block .now) (l .i) (c .loop-test .left) ∙ sym (l .inv .4)), (omega arith, λ q. absurd (let z : _≡_ {A = ℕ} 0 1 = cc in omega arith)))
+returns-2 c =
+    let block = c .before .before .before .before .args .block .now in
+    let l = c .before .loop in
+    let end = held-end (take (l .count) (l .line)) block (l .i) (c .loop-test .left) in
+    (end ∙ sym (l .inv .4), (omega arith, λ q. absurd (let z : _≡_ {A = ℕ} 0 1 = cc in omega arith)))
 
 pub hold-line-spec : {M : Type 1} → statement M
 hold-line-spec =
