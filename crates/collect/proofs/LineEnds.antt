@@ -14,7 +14,7 @@ use Rattle.collect.specs.declared.Ending.{Ending}
 use Rattle.transcript.specs.Transcript.{Turn, Reader, ended}
 use Rattle.collect.specs.Dialogue.{Dialogue, turn}
 use Rattle.collect.specs.Answering.{dialogueIn, requested, Answers, readerIn, served, Ends}
-use Rattle.transcript.proofs.Prefixes.{least-take}
+use Rattle.rows.proofs.Prefixes.{least-take}
 
 -- what is known once line number k has led to a turn
 abbrev after : ℕ → List ℕ → Turn Dialogue → Reader Dialogue

@@ -208,7 +208,7 @@ pub fn end_line(
     if 65535 < r.number {
         return quiet(r);
     }
-    let held = transcript::least(r.held, line.len());
+    let held = rows::least(r.held, line.len());
     let d = r.kept;
     let answered = answer(d, r.number as u16, &line[..held], numbers, links, out);
     let kept = answered.kept;

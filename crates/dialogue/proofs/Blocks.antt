@@ -22,7 +22,7 @@ use Rattle.dialogue.specs.Taking.{TakesLines}
 use Rattle.transcript.proofs.Transcripts.{line-by-line}
 use Rattle.transcript.proofs.Printing.{unprinted-foldl}
 use Rattle.transcript.proofs.Holding.{held-all}
-use Rattle.transcript.proofs.Prefixes.{least-take}
+use Rattle.rows.proofs.Prefixes.{least-take}
 
 -- what a block leads to, but for what is printed
 abbrev left : Reader Dialogue → List ℕ → Reader Dialogue

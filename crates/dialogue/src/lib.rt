@@ -12,7 +12,7 @@ ghost use Rattle.dialogue.specs.Taking.{TakesLines};
 pub fn reply(out: &[u8], written: usize) -> &[u8]
     ensures { λ r. ⌜ now r ≡ take written (now (out .entry)) ⌝ }
 {
-    let count = transcript::least(written, out.len());
+    let count = rows::least(written, out.len());
     &out[..count]
 }
 
@@ -75,7 +75,7 @@ pub fn take_lines(
                 session = called.session;
             }
         }
-        written += transcript::least(reader.written, out.len() - written);
+        written += rows::least(reader.written, out.len() - written);
     }
     Taken {
         reader,

@@ -64,7 +64,7 @@ fn reply_to_walk(answer: Walk, switch: u16, tree: u16, route: &[u16], out: &mut 
 {
     match answer {
         Walk::Count(count) => {
-            let shown = transcript::least(count as usize, route.len());
+            let shown = rows::least(count as usize, route.len());
             replies::write_walk(out, switch, tree, &route[..shown])
         }
         Walk::Refused(number, place) => replies::write_refused(out, number, place),
@@ -93,7 +93,7 @@ fn open(r: Reader, s: Session, links: &[u16], out: &mut [u8]) -> Called
     ensures { λ c. ⌜ repliedIn (c .reader) (c .session) (now (out .exit)) ≡ (let d = r .kept in let o = loadedBy s (networkOf (d .n) (take (2 * d .count) (now (links .entry))) (d .root) (d .first) (d .last)) in repliedBy r d (o .after) (replyTo (λ vs. opened (at vs 0) (at vs 1)) (o .answer))) ⌝ }
 {
     let d = r.kept;
-    let numbers = transcript::least(2 * (d.count as usize), links.len());
+    let numbers = rows::least(2 * (d.count as usize), links.len());
     let loading = session::load(s, d.n, &links[..numbers], d.root, d.first, d.last);
     let answer = loading.answer;
     let session = loading.session;
@@ -107,7 +107,7 @@ fn offer(r: Reader, s: Session, count: u16, numbers: &[u16], out: &mut [u8]) -> 
     requires { ⌜ 8192 ≤ length (now out) ⌝ }
     ensures { λ c. ⌜ repliedIn (c .reader) (c .session) (now (out .exit)) ≡ (let o = offeredBy s (take count (now (numbers .entry))) in repliedBy r (r .kept) (o .after) (replyTo (λ vs. new (at vs 0)) (o .answer))) ⌝ }
 {
-    let shown = transcript::least(count as usize, numbers.len());
+    let shown = rows::least(count as usize, numbers.len());
     let offering = session::ear(s, &numbers[..shown]);
     let answer = offering.answer;
     let session = offering.session;

@@ -1,4 +1,3 @@
-pub mod Prefixes
 pub mod Transcripts
 pub mod Printing
 pub mod Holding

@@ -1,6 +1,6 @@
 use borrow.Author.Tests.{lt-ltb, le-ltb}
 use Rattle.mondschein.proofs.Logic.{or-left, true-or, false-or}
-use Rattle.transcript.proofs.Prefixes.{least-length}
+use Rattle.rows.proofs.Prefixes.{least-length}
 use Rattle.collect.proofs.LineEnds.{end-quiet, end-turn}
 use borrow.Author.Needs.{needs}
 use Rattle.collect.proofs.end_line.Statement.{statement}

@@ -1,4 +1,4 @@
-use Rattle.transcript.proofs.Prefixes.{least-length, least-take}
+use Rattle.rows.proofs.Prefixes.{least-length, least-take}
 use borrow.Author.Needs.{needs}
 use Rattle.dialogue.proofs.reply.Statement.{statement}
 use Rattle.dialogue.proofs.reply.Tie as tie

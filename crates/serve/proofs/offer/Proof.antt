@@ -3,7 +3,7 @@ use Rattle.mondschein.specs.Network.{at}
 use Rattle.judge.specs.Ear.{earAnswer}
 use Rattle.session.specs.Session.{offeredBy}
 use Rattle.replies.specs.Replies.{new}
-use Rattle.transcript.proofs.Prefixes.{least-length, least-take}
+use Rattle.rows.proofs.Prefixes.{least-length, least-take}
 use Rattle.serve.proofs.Replying.{replied-call}
 use borrow.Author.Needs.{needs}
 use Rattle.serve.proofs.offer.Statement.{statement}

@@ -7,7 +7,7 @@ use Rattle.mondschein.specs.Outcome.{Outcome}
 use Rattle.session.specs.declared.Session.{Session}
 use Rattle.session.specs.Session.{loadedBy}
 use Rattle.replies.specs.Replies.{opened}
-use Rattle.transcript.proofs.Prefixes.{least-length, least-take}
+use Rattle.rows.proofs.Prefixes.{least-length, least-take}
 use Rattle.serve.proofs.Replying.{replied-call}
 use borrow.Author.Needs.{needs}
 use Rattle.serve.proofs.open.Statement.{statement}

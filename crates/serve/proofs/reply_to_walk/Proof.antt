@@ -7,7 +7,7 @@ use Rattle.walks.specs.declared.Walk.{Walk}
 use Rattle.walks.specs.Walks.{walkAnswer}
 use Rattle.replies.specs.Replies.{Reply, walked}
 use Rattle.collect.specs.Dialogue.{replyTo}
-use Rattle.transcript.proofs.Prefixes.{least-length, least-take}
+use Rattle.rows.proofs.Prefixes.{least-length, least-take}
 use Rattle.serve.proofs.Replying.{printed-as}
 use borrow.Author.Needs.{needs}
 use Rattle.serve.proofs.reply_to_walk.Statement.{statement}
