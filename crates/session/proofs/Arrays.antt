@@ -17,17 +17,17 @@ use Rattle.session.proofs.Session.Laws.{the-laws}
 array-length : (l : List ℕ) (n : ℕ) → length (map (λ x. x) l) ≡ n → length l ≡ n
 array-length l n q = sym (length-map l (λ x. x)) ∙ q
 
--- the session is given by value
-abbrev pub Given : Session → Type 0
-Given s = Is (row the-type) s (val the-type the-laws s ∷ [])
+-- what owning a session tells of it
+abbrev Owned : Session → Type 0
+Owned s = Is (row the-type) s (val the-type the-laws s ∷ [])
 
-module _ (s : Session) (g : Given s) where
+module _ (s : Session) (o : Owned s) where
   pub links-length : length (s .links) ≡ 8192
-  links-length = array-length (s .links) 8192 (g .1 .1 .1 .1 .1 .1 .1 .1 .0 .1 .0 .1)
+  links-length = array-length (s .links) 8192 (o .1 .1 .1 .1 .1 .1 .1 .1 .0 .1 .0 .1)
 
   pub tables-sized : Sized (tablesIn s)
   tables-sized =
-      let from-used = g .1 .1 .1 .1 .1 .1 .1 .1 .1 in
+      let from-used = o .1 .1 .1 .1 .1 .1 .1 .1 .1 in
       record {
         used = array-length (s .used) 4096 (from-used .0 .1 .0 .1);
         births = array-length (s .births) 1024 (from-used .1 .1 .0 .1 .0 .1);
