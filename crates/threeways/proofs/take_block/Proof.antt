@@ -43,7 +43,7 @@ loop-less : tie.Need-loop-less Inv-loop μ-loop
 loop-less c =
     let t = at-take c in
     let test = body t .loop-test .taken in
-    omega (arith, t .take-lines .ensures .1 .1 test, t .take-lines .ensures .1 .0, test)
+    omega (arith, t .take-lines .ensures .1 .1 (omega (arith, test)), t .take-lines .ensures .1 .0, test)
 
 loop-again : tie.Need-loop-again Inv-loop μ-loop
 loop-again c =
