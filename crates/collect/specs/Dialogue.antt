@@ -69,7 +69,7 @@ respond d k (some closing) =
     let o = closedBy (d .session) in
     answered (withSession d (o .after)) (replyTo (λ vs. closed) (o .answer))
 respond d k (some (walk switch tree)) =
-    let o = walkedBy (d .session) switch tree (replicate 1024 0) in
+    let o = walkedBy (d .session) switch tree (replicate (limits .maxSwitches) 0) in
     answered d (replyTo (λ vs. walked switch tree (take (at vs 0) (o .after))) (o .answer))
 respond d k (some clearing) = answered fresh cleared
 

@@ -17,7 +17,7 @@ use Rattle.mondschein.proofs.Lists.{at-same, at-reverse}
 use Rattle.mondschein.proofs.Search.{low-is}
 use Rattle.mondschein.proofs.Order.{put, fromA-turned, between-length, between-at, extend-is}
 use Rattle.order.specs.Placed.{placed, placedCount}
-use Rattle.rows.proofs.Rows.{take-count}
+use Rattle.rows.proofs.Prefixes.{least-take}
 use Rattle.order.proofs.Writing.{gap}
 
 -- a position in the first c numbers
@@ -29,8 +29,8 @@ position-within {q} o c x h = omega (arith, low-is (λ k. eqb (at (take c o) k) 
 pub upward-by : {r p q : ℕ} (b : ℕ) (o e : List ℕ) → r ≡ min b (length o) → p ≡ position (take r o) (at e 0) → q ≡ position (take r o) (at e (length e - 1)) → ltb p q ≡ upward (take b o) e
 upward-by b o e h s t =
     ap₂ ltb
-    (s ∙ ap (λ (l : List ℕ). position l (at e 0)) (take-count b o h))
-    (t ∙ ap₂ position (take-count b o h) (at-same e _ _ (omega arith)))
+    (s ∙ ap (λ (l : List ℕ). position l (at e 0)) (least-take b o h))
+    (t ∙ ap₂ position (least-take b o h) (at-same e _ _ (omega arith)))
 
 -- the numbers between the ends, of an ear turned round
 between-reverse : (e : List ℕ) → between (reverse e) ≡ reverse (between e)
@@ -49,7 +49,7 @@ between-reverse e =
 -- an index past the end counts as the end
 put-within : {r : ℕ} (o new : List ℕ) (m : ℕ) → r ≡ min m (length o) → put o new r ≡ put o new m
 put-within {r} o new m h =
-    ap₂ (λ (x y : List ℕ). x ++ (new ++ y)) (take-count m o h)
+    ap₂ (λ (x y : List ℕ). x ++ (new ++ y)) (least-take m o h)
     (⊎-elim
     (λ (l : m < length o). ap (λ (k : ℕ). drop k o) (let z : r ≡ m = omega arith in z))
     (λ (l : length o ≤ m). drop-of-length-le o {i = r} (omega arith) ∙ sym (drop-of-length-le o l))
@@ -156,7 +156,7 @@ module _ {r : ℕ} (o e : List ℕ) (b : ℕ) (h : r ≡ min b (length o)) where
   -- nothing is born: the ear as written
   extend-none : r ≡ 0 → extend (take b o) e ≡ e
   unfolding extend
-  extend-none z = ap (λ (l : List ℕ). extend l e) (sym (take-count b o h) ∙ ap (λ (k : ℕ). take k o) z)
+  extend-none z = ap (λ (l : List ℕ). extend l e) (sym (least-take b o h) ∙ ap (λ (k : ℕ). take k o) z)
 
   pub first-placed : {w : List ℕ} → r ≡ 0 → length e ≤ length o → w ≡ e ++ drop (0 + length e) o → (length e ≡ placedCount (extend (take b o) e) o b) × (w ≡ placed (extend (take b o) e) o)
   first-placed z l q = rw (extend-none z) (with-room e o b refl l (q ∙ ap (λ (k : ℕ). e ++ drop k o) (let z : 0 + length e ≡ length e = omega arith in z)))
@@ -184,7 +184,7 @@ module _ {r : ℕ} (o e : List ℕ) (b : ℕ) (h : r ≡ min b (length o)) where
 
   pub later-placed : {w : List ℕ} → 0 < r → r + (length e - 2) ≤ length o → w ≡ extend (take r o) e ++ drop (r + (length e - 2)) o
       → (r + (length e - 2) ≡ placedCount (extend (take b o) e) o b) × (w ≡ placed (extend (take b o) e) o)
-  later-placed z l q = with-room (extend (take b o) e) o b (extend-count z) l (q ∙ ap (λ (t : List ℕ). extend t e ++ drop (r + (length e - 2)) o) (take-count b o h))
+  later-placed z l q = with-room (extend (take b o) e) o b (extend-count z) l (q ∙ ap (λ (t : List ℕ). extend t e ++ drop (r + (length e - 2)) o) (least-take b o h))
 
   pub later-not-placed : 0 < r → length o < r + (length e - 2) → (b ≡ placedCount (extend (take b o) e) o b) × (o ≡ placed (extend (take b o) e) o)
   later-not-placed z l = without-room (extend (take b o) e) o b (omega (arith, extend-count z))

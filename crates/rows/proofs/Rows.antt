@@ -1,24 +1,13 @@
--- Laws of rows in the code's terms: what is counted within a list, what an entry's comparison says of a mark, and a row filled with
--- one number.
-use mathlib.Core.Path.{_≡_, sym, ap, ap₂, _∙_, subst}
-use mathlib.Core.Logic.{⊎-elim}
+-- Laws of rows in the code's terms: what an entry's comparison says of a mark, and a row filled with one number.
+-- What `least` bounds is in Prefixes.antt.
+use mathlib.Core.Path.{_≡_, ap, ap₂, _∙_, subst}
 use mathlib.Core.Bool.{true, false}
 use mathlib.Core.List.{List, _++_, append-nil}
-use Prim.Native.Nat.{ℕ, min, _≤_, _<_}
+use Prim.Native.Nat.{ℕ, _≤_, _<_}
 use native.Mathlib.Omega.{arith}
 use lib.Dec.{ltb}
-use lib.ListN.{length, take, drop, replicate, drop-of-length-le}
-use lib.Seq.{take-all}
+use lib.ListN.{length, drop, replicate, drop-of-length-le}
 use borrow.Author.Tests.{lt-ltb, le-ltb}
-use Rattle.mondschein.proofs.Logic.{less?}
-
--- the first b of a list, counted within it
-pub take-count : {r : ℕ} (b : ℕ) (o : List ℕ) → r ≡ min b (length o) → take r o ≡ take b o
-take-count {r} b o e =
-    ⊎-elim
-    (λ (h : b < length o). ap (λ (k : ℕ). take k o) (let z : r ≡ b = omega arith in z))
-    (λ (h : length o ≤ b). take-all r o (omega arith) ∙ sym (take-all b o h))
-    (less? b (length o))
 
 -- the entry r of a table of marks
 pub marked-hit : {r mark : ℕ} → r ≡ mark → 0 < r → ltb 0 mark ≡ true

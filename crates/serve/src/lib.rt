@@ -168,7 +168,7 @@ pub fn serve_walk(r: Reader, s: Session, switch: u16, tree: u16, out: &mut [u8])
     requires { ⌜ 8192 ≤ length (now out) ⌝ }
     ensures { λ x. ⌜ ServesWalk switch tree r s x (now (out .exit)) ⌝ }
 {
-    let mut route = [0u16; 1024];
+    let mut route = [0u16; Session::MAX_SWITCHES as usize];
     let answer = session::walk(s, switch, tree, &mut route);
     let written = reply_to_walk(answer, switch, tree, &route, out);
     replied(r, written)

@@ -86,7 +86,7 @@ fn run(line: &mut [u8], numbers: &mut [u16], links: &mut [u16], out: &mut [u8])
 fn main() {
     let mut line = [0u8; 6145];
     let mut numbers = [0u16; 3072];
-    let mut links = [0u16; 8192];
+    let mut links = [0u16; 2 * (Session::MAX_LINKS as usize)];
     let mut out = [0u8; 16384];
     run(&mut line, &mut numbers, &mut links, &mut out);
 }
