@@ -17,12 +17,12 @@ use Rattle.lines.specs.Reading.{reading}
 use Rattle.lines.specs.declared.Form.{Form as Code·Form}
 use Rattle.lines.specs.declared.Form.the-variants.{Link}
 use Rattle.lines.specs.Line.{coded, held}
-use Rattle.replies.specs.Replies.{unread, reply}
+use Rattle.replies.specs.Replies.{unread, reply, Printed}
 use Rattle.collect.specs.declared.Kept.{Kept}
 use Rattle.collect.specs.declared.Request.the-variants.{Nothing}
 use Rattle.collect.specs.declared.Answered.{Answered}
 use Rattle.collect.specs.Dialogue.{Dialogue, withLinks, silent, unreadAt, respond, turn}
-use Rattle.collect.specs.Answering.{Printed, dialogueIn, requested, effectIn, turnOf, respondTo, Responds}
+use Rattle.collect.specs.Answering.{dialogueIn, requested, effectIn, turnOf, respondTo, Responds}
 
 -- what was written is read back by its count
 pub printed-back : (bytes held holds : List ℕ) (r : ℕ) → Printed bytes held r holds → take r holds ≡ bytes

@@ -5,8 +5,7 @@ use mathlib.Core.Bool.{Bool, false}
 use mathlib.Core.List.{List, _++_}
 use mathlib.Core.Option.{none, some}
 use Prim.Native.Nat.{ℕ, pred, _*_}
-use lib.ListN.{length, take}
-use Rattle.mondschein.specs.Outcome.{over}
+use lib.ListN.{take}
 use Rattle.session.specs.declared.Session.{Session}
 use Rattle.lines.specs.declared.Form.{Form as Code·Form}
 use Rattle.lines.specs.declared.Form.the-variants as Code
@@ -21,10 +20,6 @@ use Rattle.collect.specs.declared.Reader.{Reader as Code·Reader}
 use Rattle.collect.specs.declared.Ending.{Ending}
 use Rattle.transcript.specs.Transcript.{Turn, Reader, ended}
 use Rattle.collect.specs.Dialogue.{Dialogue, respond, turn}
-
--- a slice that begins with the bytes, r of them, and holds else what it held
-abbrev pub Printed : List ℕ → List ℕ → ℕ → List ℕ → Type 0
-Printed bytes held r holds = (r ≡ length bytes) × (holds ≡ over bytes held)
 
 -- what is collected, with its links in a slice, and a session
 abbrev pub dialogueIn : Kept → Session → List ℕ → Dialogue

@@ -55,11 +55,11 @@ back-end o w h p =
     ∙ ap (λ (l : List ℕ). take w o ++ l) (append-nil p)
 
 module _ (o : List ℕ) (w : ℕ) (h : w ≤ length o) (p : List ℕ) (q : length p ≡ length (take (length o - w) (drop w o))) where
-  pub back-length : length (back o w p) ≡ length o
+  back-length : length (back o w p) ≡ length o
   back-length = ap length (back-end o w h p) ∙ omega (arith, length-append (take w o) p, length-take w o, q, length-take (length o - w) (drop w o), length-drop w o)
 
   -- the first k bytes of what came back, after what was written before
-  pub back-taken : (k r : ℕ) → r ≡ min k (length (back o w p) - w) → take (w + r) (back o w p) ≡ take w o ++ take k p
+  back-taken : (k r : ℕ) → r ≡ min k (length (back o w p) - w) → take (w + r) (back o w p) ≡ take w o ++ take k p
   back-taken k r e =
       ap (take (w + r)) (back-end o w h p)
       ∙ ap (λ (m : ℕ). take (m + r) (take w o ++ p)) (let z : w ≡ length (take w o) = omega (arith, length-take w o) in z)

@@ -39,7 +39,7 @@ after-bytes (b ∷ w) (x ∷ s) m =
     (λ e m₁. clash m₁ refl)
     m
 
-pub after-part : (w s : List ℕ) → after w (w ++ s) ≡ s
+after-part : (w s : List ℕ) → after w (w ++ s) ≡ s
 unfolding after
 after-part [] s = refl
 after-part (b ∷ w) s = rw (eq-eqb b b refl, after-part w s)
@@ -66,7 +66,7 @@ digits-bytes v (x ∷ s) h g m =
     )
 
 -- the number that was read stands in its writing
-pub number-bytes : (s : List ℕ) → more (number s .rest) ≡ true → (s ≡ decimal (number s .value) ++ number s .rest) × (number s .value ≤ 65535)
+number-bytes : (s : List ℕ) → more (number s .rest) ≡ true → (s ≡ decimal (number s .value) ++ number s .rest) × (number s .value ≤ 65535)
 unfolding number decimal decimalIn
 number-bytes [] m = clash m refl
 number-bytes (x ∷ s) m =
@@ -110,7 +110,7 @@ number-digits (suc k) n s b h g =
     (less? n 10)
 
 -- a number in its writing is read, before any byte below the digits
-pub number-part : (n x : ℕ) (s : List ℕ) → n ≤ 65535 → x < 48 → number (decimal n ++ (x ∷ s)) ≡ record { value = n; rest = x ∷ s }
+number-part : (n x : ℕ) (s : List ℕ) → n ≤ 65535 → x < 48 → number (decimal n ++ (x ∷ s)) ≡ record { value = n; rest = x ∷ s }
 unfolding number digits decimal decimalIn
 number-part zero x s h l = refl
 number-part (suc n) x s h l = number-digits (suc n) (suc n) (x ∷ s) (omega arith) (omega arith) h ∙ rw (lt-ltb x 48 l)

@@ -4,6 +4,7 @@ use mathlib.Core.Path.{_≡_}
 use mathlib.Core.List.{List, [], _∷_, _++_, map}
 use Prim.Native.Nat.{ℕ, _+_}
 use lib.ListN.{length, take, drop}
+use Rattle.mondschein.specs.Outcome.{over}
 use Rattle.lines.specs.Writing.{ascii, WALK, decimal, spaced, bracketed}
 
 -- the replies
@@ -38,3 +39,7 @@ reply (unread number) = line (ascii "unread" ∷ decimal number ∷ [])
 pub record Wrote (at : ℕ) (bytes held : List ℕ) (next : ℕ) (holds : List ℕ) : Type 0 where
   pub ended : next ≡ at + length bytes
   pub slice : holds ≡ take at held ++ (bytes ++ drop (at + length bytes) held)
+
+-- a slice that begins with the bytes, r of them, and holds else what it held
+abbrev pub Printed : List ℕ → List ℕ → ℕ → List ℕ → Type 0
+Printed bytes held r holds = (r ≡ length bytes) × (holds ≡ over bytes held)

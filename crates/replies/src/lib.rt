@@ -1,12 +1,10 @@
 // Lines of threeways: the replies, written into a lent slice.
 // A place is an index into the slice; bytes are written from there on.
-ghost use mathlib.Core.Path.{_≡_};
 ghost use mathlib.Core.List.{_∷_, map};
 ghost use Prim.Native.Nat.{_+_, _*_, _≤_};
 ghost use lib.ListN.{length};
-ghost use Rattle.mondschein.specs.Outcome.{over};
 ghost use Rattle.lines.specs.Writing.{decimal, spaced, separated};
-ghost use Rattle.replies.specs.Replies.{head, line, reply, opened, new, refused, closed, walked, cleared, unread, Wrote};
+ghost use Rattle.replies.specs.Replies.{head, line, reply, opened, new, refused, closed, walked, cleared, unread, Wrote, Printed};
 
 // Writes bytes from index at on, and gives the index after them.
 fn put(out: &mut [u8], at: usize, bytes: &[u8]) -> usize
@@ -77,7 +75,7 @@ fn put_head(out: &mut [u8], word: &[u8], numbers: &[u16]) -> usize
 // Writes a line of a word and numbers at the start of the slice, and gives the count of its bytes.
 fn write_line(out: &mut [u8], word: &[u8], numbers: &[u16]) -> usize
     requires { ⌜ 3 + length (now word) + 6 * length (now numbers) ≤ length (now out) ⌝ }
-    ensures { λ r. ⌜ (r ≡ length (line ((now (word .entry)) ∷ map decimal (now (numbers .entry))))) × (now (out .exit) ≡ over (line ((now (word .entry)) ∷ map decimal (now (numbers .entry)))) (now (out .entry))) ⌝ }
+    ensures { λ r. ⌜ Printed (line ((now (word .entry)) ∷ map decimal (now (numbers .entry)))) (now (out .entry)) r (now (out .exit)) ⌝ }
 {
     let next = put_head(out, word, numbers);
     put(out, next, b")\n")
@@ -86,7 +84,7 @@ fn write_line(out: &mut [u8], word: &[u8], numbers: &[u16]) -> usize
 // Writes the reply to an open that loads: switches and links. Any reply but a walk has room in 32 bytes.
 pub fn write_opened(out: &mut [u8], switches: u16, links: u16) -> usize
     requires { ⌜ 32 ≤ length (now out) ⌝ }
-    ensures { λ r. ⌜ (r ≡ length (reply (opened switches links))) × (now (out .exit) ≡ over (reply (opened switches links)) (now (out .entry))) ⌝ }
+    ensures { λ r. ⌜ Printed (reply (opened switches links)) (now (out .entry)) r (now (out .exit)) ⌝ }
 {
     let numbers = [switches, links];
     write_line(out, b"opened", &numbers)
@@ -95,7 +93,7 @@ pub fn write_opened(out: &mut [u8], switches: u16, links: u16) -> usize
 // Writes the reply to an ear that is accepted: its number of new switches.
 pub fn write_new(out: &mut [u8], count: u16) -> usize
     requires { ⌜ 32 ≤ length (now out) ⌝ }
-    ensures { λ r. ⌜ (r ≡ length (reply (new count))) × (now (out .exit) ≡ over (reply (new count)) (now (out .entry))) ⌝ }
+    ensures { λ r. ⌜ Printed (reply (new count)) (now (out .entry)) r (now (out .exit)) ⌝ }
 {
     let numbers = [count];
     write_line(out, b"new", &numbers)
@@ -104,7 +102,7 @@ pub fn write_new(out: &mut [u8], count: u16) -> usize
 // Writes the reply to a call that is refused: the refusal's number and its place.
 pub fn write_refused(out: &mut [u8], number: u8, place: u16) -> usize
     requires { ⌜ 32 ≤ length (now out) ⌝ }
-    ensures { λ r. ⌜ (r ≡ length (reply (refused number place))) × (now (out .exit) ≡ over (reply (refused number place)) (now (out .entry))) ⌝ }
+    ensures { λ r. ⌜ Printed (reply (refused number place)) (now (out .entry)) r (now (out .exit)) ⌝ }
 {
     let numbers = [number as u16, place];
     write_line(out, b"refused", &numbers)
@@ -113,7 +111,7 @@ pub fn write_refused(out: &mut [u8], number: u8, place: u16) -> usize
 // Writes the reply to a close that succeeds.
 pub fn write_closed(out: &mut [u8]) -> usize
     requires { ⌜ 32 ≤ length (now out) ⌝ }
-    ensures { λ r. ⌜ (r ≡ length (reply closed)) × (now (out .exit) ≡ over (reply closed) (now (out .entry))) ⌝ }
+    ensures { λ r. ⌜ Printed (reply closed) (now (out .entry)) r (now (out .exit)) ⌝ }
 {
     put(out, 0, b"(closed)\n")
 }
@@ -121,7 +119,7 @@ pub fn write_closed(out: &mut [u8]) -> usize
 // Writes the reply to a clear.
 pub fn write_cleared(out: &mut [u8]) -> usize
     requires { ⌜ 32 ≤ length (now out) ⌝ }
-    ensures { λ r. ⌜ (r ≡ length (reply cleared)) × (now (out .exit) ≡ over (reply cleared) (now (out .entry))) ⌝ }
+    ensures { λ r. ⌜ Printed (reply cleared) (now (out .entry)) r (now (out .exit)) ⌝ }
 {
     put(out, 0, b"(cleared)\n")
 }
@@ -129,7 +127,7 @@ pub fn write_cleared(out: &mut [u8]) -> usize
 // Writes the reply to a line that is no form, or to a link too many: the number of the line.
 pub fn write_unread(out: &mut [u8], number: u16) -> usize
     requires { ⌜ 32 ≤ length (now out) ⌝ }
-    ensures { λ r. ⌜ (r ≡ length (reply (unread number))) × (now (out .exit) ≡ over (reply (unread number)) (now (out .entry))) ⌝ }
+    ensures { λ r. ⌜ Printed (reply (unread number)) (now (out .entry)) r (now (out .exit)) ⌝ }
 {
     let numbers = [number];
     write_line(out, b"unread", &numbers)
@@ -138,7 +136,7 @@ pub fn write_unread(out: &mut [u8], number: u16) -> usize
 // Writes the reply to a walk: its switch, its tree and its switches; 1,024 switches have room in 6,166 bytes.
 pub fn write_walk(out: &mut [u8], switch: u16, tree: u16, switches: &[u16]) -> usize
     requires { ⌜ 22 + 6 * length (now switches) ≤ length (now out) ⌝ }
-    ensures { λ r. ⌜ (r ≡ length (reply (walked switch tree (now (switches .entry))))) × (now (out .exit) ≡ over (reply (walked switch tree (now (switches .entry)))) (now (out .entry))) ⌝ }
+    ensures { λ r. ⌜ Printed (reply (walked switch tree (now (switches .entry)))) (now (out .entry)) r (now (out .exit)) ⌝ }
 {
     let numbers = [switch, tree];
     let next = put_head(out, &lines::WALK, &numbers);

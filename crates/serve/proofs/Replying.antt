@@ -11,7 +11,7 @@ use Rattle.mondschein.specs.Outcome.{Outcome}
 use Rattle.network.specs.Load.{networkOf}
 use Rattle.session.specs.declared.Session.{Session}
 use Rattle.session.specs.Session.{emptySession, loadedBy, offeredBy, closedBy}
-use Rattle.replies.specs.Replies.{Reply, opened, new, closed, walked, cleared, reply}
+use Rattle.replies.specs.Replies.{Reply, opened, new, closed, walked, cleared, reply, Printed}
 use Rattle.collect.specs.declared.Kept.{Kept}
 use Rattle.collect.specs.declared.Call.{Call as Code·Call}
 use Rattle.collect.specs.declared.Call.the-variants.{Open, Ear, Close, Clear}
@@ -20,7 +20,7 @@ use Rattle.collect.specs.declared.Request.the-variants.{Call}
 use Rattle.collect.specs.declared.Reader.{Reader as Code·Reader}
 use Rattle.transcript.specs.Transcript.{Turn}
 use Rattle.collect.specs.Dialogue.{Dialogue, replyTo, respond}
-use Rattle.collect.specs.Answering.{Printed, dialogueIn, freshKept, formOf, requested}
+use Rattle.collect.specs.Answering.{dialogueIn, freshKept, formOf, requested}
 use Rattle.collect.proofs.Collecting.{printed-back}
 use Rattle.serve.specs.Serving.{Replied, repliedIn, repliedBy, Serves}
 

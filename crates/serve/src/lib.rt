@@ -18,10 +18,10 @@ ghost use Rattle.judge.specs.Ear.{earAnswer};
 ghost use Rattle.tables.specs.Tables.{closeAnswer};
 ghost use Rattle.walks.specs.Walks.{walkAnswer};
 ghost use Rattle.session.specs.Session.{emptySession, loadedBy, offeredBy, closedBy};
-ghost use Rattle.replies.specs.Replies.{opened, new, closed, walked, cleared, reply};
+ghost use Rattle.replies.specs.Replies.{opened, new, closed, walked, cleared, reply, Printed};
 ghost use Rattle.collect.specs.declared.Request.the-variants as Request·;
 ghost use Rattle.collect.specs.Dialogue.{replyTo};
-ghost use Rattle.collect.specs.Answering.{Printed, freshKept};
+ghost use Rattle.collect.specs.Answering.{freshKept};
 ghost use Rattle.serve.specs.Serving.{repliedIn, repliedBy, Serves, ServesWalk};
 
 // Writes the reply to load.
