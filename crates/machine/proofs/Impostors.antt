@@ -1,7 +1,7 @@
 -- Document 01's impostors, each as a program that is the machine but for one thing, with the demand that it does not meet.
--- So no demand holds of every program.
+-- So no demand holds of every program; what a weaker demand would let through is named here.
 use mathlib.Core.Path.{_≡_, refl, ap}
-use mathlib.Core.Logic.{inr}
+use mathlib.Core.Logic.{inr, ⊎-elim}
 use mathlib.Core.Bool.{_&&_, cond}
 use mathlib.Core.List.{List, [], _∷_, _++_, map}
 use Prim.Native.Nat.{ℕ}
@@ -15,8 +15,8 @@ use Rattle.mondschein.specs.Outcome.{Outcome, unknown}
 use Rattle.mondschein.specs.Mondschein.{Mondschein}
 use Rattle.mondschein.proofs.Outcomes.{never}
 use Rattle.mondschein.proofs.Excluded.{link-in-three-trees}
-use Rattle.machine.specs.Machine.{plan, closedPlan, State, empty, closed, byState, Call, load, ear, close, answers, longer, told, tells, parentCall, walkCall, orderOf, sizeOf, Program, historyFrom, history}
-use Rattle.machine.specs.Demands.{Demand2, Demand3}
+use Rattle.machine.specs.Machine.{plan, closedPlan, State, empty, opened, closed, byState, Call, load, ear, close, answers, longer, told, tells, parentCall, walkCall, orderOf, sizeOf, Program, historyFrom, history}
+use Rattle.machine.specs.Demands.{Demand1, Demand2, Demand3}
 use Rattle.machine.proofs.Demand2.{plain}
 
 -- to unfold this is to unfold the judge, the tables and the machine
@@ -128,6 +128,15 @@ unfolding computed
 makes-up-the-number d =
     let z : _≡_ {A = ℕ} 0 3 = ap value (d .judges (load net ∷ []) (plan net []) refl .accepts cycle later sequence) in
     absurd (omega arith)
+
+-- one that forgets all, even where it refuses
+pub forgets : Demand1 (record { Session = State; fresh = empty; after = λ s c. empty; answer = λ s c. answers c s; parent = parentCall; walk = walkCall; order = orderOf; size = sizeOf }) → ⊥
+unfolding computed
+forgets d =
+    ⊎-elim
+    (λ (vs, q). never q)
+    (λ (num, place, q, r, e). let z : _≡_ {A = ℕ} 0 1 = ap (byState 0 (λ p. 1) (λ p. 2)) e in absurd (omega arith))
+    (d .calls (opened (plan net [])) close)
 
 -- ones that say 18 for a slice that is long enough, or 21 or 23 with nothing missing
 abbrev noRoom : State → ℕ → ℕ → List ℕ → Outcome (List ℕ)

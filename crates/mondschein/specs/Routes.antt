@@ -37,9 +37,10 @@ pub record Inserted (o e o′ : List ℕ) : Type 0 where
 -- the order of switches: `o i` is the order after the first i ears
 module _ (net : Network) (es : Ears) (o : ℕ → List ℕ) where
   pub record OrderRules : Type 0 where
-    -- it begins as the first ear as written
+    -- it begins as the first ear as written, and each later ear is inserted
     pub starts : o 1 ≡ earAt es 0
     pub inserts : (i : ℕ) → 0 < i → i < length es → Inserted (o i) (earAt es i) (o (suc i))
+    -- so in the end it goes from root to first, and every born switch stands in it once
     pub begins : at (o (length es)) 0 ≡ net .root
     pub ends : at (o (length es)) (pred (length (o (length es)))) ≡ net .first
     pub once : Simple (o (length es))
