@@ -2,9 +2,10 @@ use Prim.Native.Nat.{ℕ, _≤_, _-_}
 use mathlib.Core.Path.{_≡_, sym, ap, _∙_}
 use mathlib.Core.Logic.{⊎-elim}
 use borrow.Author.Tests.{eq-eqb, ne-eqb}
+use mathlib.Core.List.{List}
 use lib.ListN.{length}
 use borrow.Author.Needs.{needs}
-use mathlib.Core.Bool.{Bool, not, _&&_, _||_}
+use mathlib.Core.Bool.{Bool, false, not, _&&_, _||_}
 use lib.Dec.{eqb}
 use Rattle.mondschein.specs.Network.{low, any, at, holds, joined}
 use Rattle.mondschein.proofs.Search.{rest, rest-begin, rest-hit, rest-miss, rest-end}
@@ -14,8 +15,12 @@ use Rattle.judge.proofs.Neighbours.{and-failed, and-passed}
 use Rattle.judge.proofs.first_cut_off.Statement.{statement}
 use Rattle.judge.proofs.first_cut_off.Tie as tie
 
+-- switch j of the new ones is not last and keeps no unborn neighbour
+abbrev cut-off : ℕ → ℕ → List ℕ → List ℕ → List ℕ → List ℕ → ℕ → Bool
+cut-off n last links births ear new j = not (eqb (at new j) last) && not (any (λ x. joined (tableOf links) (at new j) x && not (marked births x || holds ear x)) n)
+
 abbrev Inv-loop : tie.InvT-loop
-Inv-loop n last links births ear new k₀ k = let p : ℕ → Bool = λ j. not (eqb (at new j) last) && not (any (λ x. joined (tableOf links) (at new j) x && not (marked births x || holds ear x)) n) in (k ≤ length new) × (low p (length new) ≡ rest p (length new) k)
+Inv-loop n last links births ear new k₀ k = let p = cut-off n last links births ear new in (k ≤ length new) × (low p (length new) ≡ rest p (length new) k)
 
 abbrev μ-loop : tie.MeasureT-loop
 μ-loop n last links births ear new k₀ k = length new - k
@@ -52,11 +57,12 @@ loop-less c = search needs
 loop-again : tie.Need-loop-again Inv-loop μ-loop
 loop-again c =
     let at-loop-test = c .before .before in
-    let at-loop = at-loop-test .before in (
+    let at-loop = at-loop-test .before in
+    let a = at-loop .before .before .before .before .before .args in (
       search needs,
       at-loop .loop .inv .1
           ∙ rest-miss _ _ _ (at-loop-test .loop-test .taken)
-          (⊎-elim (λ w. and-passed _ _ (ap not (ne-eqb _ _ (w .0 .taken))) ∙ ap not (sym (w .1 .ensures)) ∙ w .2 .left)
+          (⊎-elim {C = cut-off (a .n) (a .last) (a .links .now) (a .births .now) (a .ear .now) (a .new .now) (at-loop .loop .k) ≡ false} (λ w. and-passed _ _ (ap not (ne-eqb _ _ (w .0 .taken))) ∙ ap not (sym (w .1 .ensures)) ∙ w .2 .left)
           (λ w. and-failed _ _ (ap not (eq-eqb _ _ (w .left)))) (c .if1 .came)),
     )
 
