@@ -1,5 +1,5 @@
 -- Document 01's impostors, each as a program that is the machine but for one thing, with the demand that it does not meet.
--- So no demand holds of every program; what a weaker demand would let through is named here.
+-- So none of the demands 1, 2 and 3 holds of every program.
 use mathlib.Core.Path.{_≡_, refl, ap}
 use mathlib.Core.Logic.{inr, ⊎-elim}
 use mathlib.Core.Bool.{_&&_, cond}

@@ -1,5 +1,5 @@
 -- Document 01's rules of the order and of the tables leave no choice: whatever obeys them is what is computed.
--- So no rule can be left out of them.
+-- The proof uses how the order begins and what each ear inserts, and every rule of the tables.
 use mathlib.Core.Path.{_≡_, sym, ap, ap₂, _∙_, subst}
 use mathlib.Core.Logic.{⊎-elim}
 use mathlib.Core.Bool.{Bool, true, cond}

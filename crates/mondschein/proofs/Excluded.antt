@@ -1,5 +1,5 @@
 -- What three routes exclude, sentence by sentence: tables and walks of which one of these is true are none.
--- Most sentences follow from the others, so nothing else would be missing if one of them said less.
+-- Each fact rests on one sentence of `ThreeRoutes` alone.
 use mathlib.Core.Path.{_≡_, refl}
 use mathlib.Core.Logic.{_⊎_, _≢_, ⊎-elim}
 use mathlib.Core.List.{List}
