@@ -2,17 +2,21 @@
 // A table of 2 M or 2 M + 1 numbers has M links.
 ghost use mathlib.Core.Path.{_≡_};
 ghost use mathlib.Core.List.{[]};
-ghost use Prim.Native.Nat.{suc, min, _+_, _*_, _≤_, _<_};
+ghost use Prim.Native.Nat.{suc, min, _+_, _*_, _/_, _≤_, _<_};
+ghost use lib.Dec.{eqb};
 ghost use lib.ListN.{length};
-ghost use Rattle.mondschein.specs.Network.{low, any, size, joins, joined, linkOf};
+ghost use Rattle.mondschein.specs.Network.{low, size, joins, joined, linkOf};
 ghost use Rattle.mondschein.specs.Judge.{linkTooLarge, selfLink, repeatedLink, wrongNames};
-ghost use Rattle.network.specs.Chains.{lowerEnd, ChainOf, Chained};
+ghost use Rattle.network.specs.Index.{farEnd, IndexedFrom, Indexed, Cleared};
 ghost use Rattle.network.specs.Load.{networkOf, tableOf, loadAnswer, nameChecks, tableChecks};
 
 // Document 01's limits of N and of M.
 pub const MAX_SWITCHES: u16 = 1024;
 
 pub const MAX_LINKS: u16 = 4096;
+
+// The length of an index of half-links: two numbers for each switch, and two for each link.
+pub const INDEX_LENGTH: usize = 2 * (MAX_SWITCHES as usize) + 2 * (MAX_LINKS as usize);
 
 // The answer to load: N and M, or a refusal's number and place.
 pub enum Load {
@@ -69,6 +73,131 @@ pub fn link_of(links: &[u16], a: u16, b: u16) -> usize
     i
 }
 
+// The index of a table's half-links, in a lent slice of 10,240 numbers. Number h of the table is half-link h; it is of link h / 2, and
+// leads from its own switch to the link's other end. With M links:
+//   index[v]          the lowest half-link of switch v, or 2 M
+//   index[1024 + v]   how many v has; it only says which chain is the shorter, and no promise speaks of it
+//   index[2048 + h]   the next half-link after h of the same switch, or 2 M
+// A slice of another length is no index: what would use it scans the table.
+
+// The slice has the length of an index.
+pub fn is_index(index: &[u16]) -> bool
+    ensures { λ r. ⌜ r ≡ eqb (length (now (index .entry))) 10240 ⌝ }
+{
+    index.len() == INDEX_LENGTH
+}
+
+// The switch that half-link h leads to.
+pub fn far_end(links: &[u16], h: usize) -> u16
+    requires { ⌜ 2 * (h / 2) + 1 < length (now links) ⌝ }
+    ensures { λ r. ⌜ r ≡ farEnd (tableOf (now (links .entry))) h ⌝ }
+{
+    let i = h / 2;
+    if h % 2 == 0 {
+        return links[2 * i + 1];
+    }
+    links[2 * i]
+}
+
+// One more half-link; a count stops at 8,192.
+fn one_more(count: u16) -> u16
+    ensures { λ r. ⌜ r ≡ min (suc count) 8192 ⌝ }
+{
+    if 8192 <= count {
+        return 8192;
+    }
+    count + 1
+}
+
+// Puts half-link h before the later ones of its switch.
+fn index_half(links: &[u16], h: usize, index: &mut [u16])
+    requires { ⌜ IndexedFrom (tableOf (now links)) (suc h) (now index) × (h < 2 * size (tableOf (now links))) ⌝ }
+    ensures { λ _. ⌜ IndexedFrom (tableOf (now (links .entry))) h (now (index .exit)) ⌝ }
+{
+    let v = links[h] as usize;
+    if 1024 <= v {
+        return;
+    }
+    index[2048 + h] = index[v];
+    index[v] = h as u16;
+    index[1024 + v] = one_more(index[1024 + v]);
+}
+
+// No switch has a half-link: each leads past the last one.
+fn clear_index(end: u16, index: &mut [u16])
+    requires { ⌜ length (now index) ≡ 10240 ⌝ }
+    ensures { λ _. ⌜ Cleared end (now (index .exit)) ⌝ }
+{
+    let mut v = 0;
+    while v < 1024 {
+        index[v] = end;
+        index[1024 + v] = 0;
+        v += 1;
+    }
+}
+
+// Puts every half-link into a cleared index, the last one first.
+fn fill_index(links: &[u16], index: &mut [u16])
+    requires { ⌜ IndexedFrom (tableOf (now links)) (2 * size (tableOf (now links))) (now index) ⌝ }
+    ensures { λ _. ⌜ IndexedFrom (tableOf (now (links .entry))) 0 (now (index .exit)) ⌝ }
+{
+    let mut h = 2 * (links.len() / 2);
+    while 0 < h {
+        h -= 1;
+        index_half(links, h, index);
+    }
+}
+
+// Makes the index of a table.
+pub fn make_index(links: &[u16], index: &mut [u16])
+    requires { ⌜ length (now links) ≤ 8193 ⌝ }
+    ensures { λ _. ⌜ Indexed (tableOf (now (links .entry))) (now (index .exit)) ⌝ }
+{
+    if !is_index(index) {
+        return;
+    }
+    clear_index((2 * (links.len() / 2)) as u16, index);
+    fill_index(links, index);
+}
+
+// The lowest link that joins a and b, or M, along the half-links of a.
+fn link_along(links: &[u16], index: &[u16], a: u16, b: u16) -> usize
+    requires { ⌜ IndexedFrom (tableOf (now links)) 0 (now index) × (a < 1024) ⌝ }
+    ensures { λ r. ⌜ r ≡ linkOf (tableOf (now (links .entry))) a b ⌝ }
+{
+    let m = links.len() / 2;
+    let mut h = index[a as usize] as usize;
+    while h < 2 * m {
+        if far_end(links, h) == b {
+            return h / 2;
+        }
+        h = index[2048 + h] as usize;
+    }
+    m
+}
+
+// The lowest link that joins a and b, or M: along the half-links of the one that has fewer, or by a scan.
+pub fn link_by(links: &[u16], index: &[u16], a: u16, b: u16) -> usize
+    requires { ⌜ Indexed (tableOf (now links)) (now index) ⌝ }
+    ensures { λ r. ⌜ r ≡ linkOf (tableOf (now (links .entry))) a b ⌝ }
+{
+    if !is_index(index) {
+        return link_of(links, a, b);
+    }
+    if 1024 <= a {
+        return link_of(links, a, b);
+    }
+    if 1024 <= b {
+        return link_of(links, a, b);
+    }
+    let v = a as usize;
+    let w = b as usize;
+    if index[1024 + v] < index[1024 + w] {
+        return link_along(links, index, a, b);
+    }
+    link_along(links, index, b, a)
+}
+
 // Check 2: the first link that names a number of n or more, or M.
 fn first_link_too_large(n: u16, links: &[u16]) -> usize
     ensures { λ r. ⌜ r ≡ low (linkTooLarge (networkOf n (now (links .entry)) 0 0 0)) (size (tableOf (now (links .entry)))) ⌝ }
@@ -102,101 +231,20 @@ fn first_self_link(links: &[u16]) -> usize
     i
 }
 
-// Link i repeats an earlier one, in either writing.
-fn repeats_earlier(links: &[u16], i: usize) -> bool
-    requires { ⌜ 2 * i + 1 < length (now links) ⌝ }
-    ensures { λ r. ⌜ r ≡ repeatedLink (tableOf (now (links .entry))) i ⌝ }
-{
-    let a = links[2 * i];
-    let b = links[2 * i + 1];
-    let mut j = 0;
-    while j < i {
-        if link_joins(links, j, a, b) {
-            return true;
-        }
-        j += 1;
-    }
-    false
-}
-
-// The lower end of link i.
-fn lower_end(links: &[u16], i: usize) -> u16
-    requires { ⌜ 2 * i + 1 < length (now links) ⌝ }
-    ensures { λ r. ⌜ r ≡ lowerEnd (tableOf (now (links .entry))) i ⌝ }
-{
-    let x = links[2 * i];
-    let y = links[2 * i + 1];
-    if x < y {
-        return x;
-    }
-    y
-}
-
-// A link below i joins a and b, by the chain of the lower of them, which begins with h.
-fn chain_joins(links: &[u16], next: &[u16], i: usize, h: u16, a: u16, b: u16) -> bool
-    requires { ⌜ ChainOf (tableOf (now links)) (min a b) i (now next) h × (2 * i ≤ length (now links)) ⌝ }
-    ensures { λ r. ⌜ r ≡ any (λ j. joins (tableOf (now (links .entry))) j a b) i ⌝ }
-{
-    let mut k = h as usize;
-    while 0 < k {
-        if link_joins(links, k - 1, a, b) {
-            return true;
-        }
-        k = next[k - 1] as usize;
-    }
-    false
-}
-
-// Link i repeats an earlier one, in either writing, by the chains of the links below it.
-fn repeats_chained(links: &[u16], i: usize, head: &[u16], next: &[u16]) -> bool
-    requires { ⌜ Chained (tableOf (now links)) i (now head) (now next) × (2 * i + 1 < length (now links)) × (i ≤ 4096) ⌝ }
-    ensures { λ r. ⌜ r ≡ repeatedLink (tableOf (now (links .entry))) i ⌝ }
-{
-    let v = lower_end(links, i) as usize;
-    if head.len() <= v {
-        return repeats_earlier(links, i);
-    }
-    chain_joins(links, next, i, head[v], links[2 * i], links[2 * i + 1])
-}
-
-// Puts link i before the others of its lower end.
-fn chain_link(links: &[u16], i: usize, head: &mut [u16], next: &mut [u16])
-    requires { ⌜ Chained (tableOf (now links)) i (now head) (now next) × (2 * i + 1 < length (now links)) × (i < 4096) ⌝ }
-    ensures { λ _. ⌜ Chained (tableOf (now (links .entry))) (suc i) (now (head .exit)) (now (next .exit)) ⌝ }
-{
-    let v = lower_end(links, i) as usize;
-    if head.len() <= v {
-        return;
-    }
-    next[i] = head[v];
-    head[v] = (i + 1) as u16;
-}
-
-// Check 4 with chains in lent slices.
-fn first_repeat(links: &[u16], head: &mut [u16], next: &mut [u16]) -> usize
-    requires { ⌜ Chained (tableOf (now links)) 0 (now head) (now next) × (length (now links) ≤ 8193) ⌝ }
+// Check 4: the first link that repeats an earlier one, in either writing, or M.
+fn first_repeated_link(links: &[u16], index: &[u16]) -> usize
+    requires { ⌜ Indexed (tableOf (now links)) (now index) ⌝ }
     ensures { λ r. ⌜ r ≡ low (repeatedLink (tableOf (now (links .entry)))) (size (tableOf (now (links .entry)))) ⌝ }
 {
     let m = links.len() / 2;
     let mut i = 0;
     while i < m {
-        if repeats_chained(links, i, head, next) {
+        if link_by(links, index, links[2 * i], links[2 * i + 1]) < i {
             return i;
         }
-        chain_link(links, i, head, next);
         i += 1;
     }
     i
-}
-
-// Check 4: the first link that repeats an earlier one, or M.
-fn first_repeated_link(links: &[u16]) -> usize
-    requires { ⌜ length (now links) ≤ 8193 ⌝ }
-    ensures { λ r. ⌜ r ≡ low (repeatedLink (tableOf (now (links .entry)))) (size (tableOf (now (links .entry)))) ⌝ }
-{
-    let mut head = [0u16; MAX_SWITCHES as usize];
-    let mut next = [0u16; MAX_LINKS as usize];
-    first_repeat(links, &mut head, &mut next)
 }
 
 // Check 5: root, first, last are not three different numbers below n.
@@ -222,32 +270,33 @@ fn wrong_names(n: u16, root: u16, first: u16, last: u16) -> bool
 }
 
 // Some link joins a and b.
-fn joined(links: &[u16], a: u16, b: u16) -> bool
+fn joined(links: &[u16], index: &[u16], a: u16, b: u16) -> bool
+    requires { ⌜ Indexed (tableOf (now links)) (now index) ⌝ }
     ensures { λ r. ⌜ r ≡ joined (tableOf (now (links .entry))) a b ⌝ }
 {
-    link_of(links, a, b) < links.len() / 2
+    link_by(links, index, a, b) < links.len() / 2
 }
 
 // Checks 5 and 6, in number order.
-fn check_names(n: u16, links: &[u16], root: u16, first: u16, last: u16) -> Load
-    requires { ⌜ length (now links) ≤ 8193 ⌝ }
+fn check_names(n: u16, links: &[u16], index: &[u16], root: u16, first: u16, last: u16) -> Load
+    requires { ⌜ (length (now links) ≤ 8193) × Indexed (tableOf (now links)) (now index) ⌝ }
     ensures { λ r. ⌜ loadAnswer r ≡ nameChecks (networkOf n (now (links .entry)) root first last) ⌝ }
 {
     if wrong_names(n, root, first, last) {
         return Load::Refused(5, 0);
     }
-    if !joined(links, root, first) {
+    if !joined(links, index, root, first) {
         return Load::Refused(6, 0);
     }
-    if !joined(links, root, last) {
+    if !joined(links, index, root, last) {
         return Load::Refused(6, 0);
     }
     Load::Loaded(n, (links.len() / 2) as u16)
 }
 
 // Checks 2 to 6, in number order: the first refusal, or N and M. At most 4,096 links, so that each place fits.
-pub fn check_table(n: u16, links: &[u16], root: u16, first: u16, last: u16) -> Load
-    requires { ⌜ length (now links) ≤ 8193 ⌝ }
+pub fn check_table(n: u16, links: &[u16], index: &[u16], root: u16, first: u16, last: u16) -> Load
+    requires { ⌜ (length (now links) ≤ 8193) × Indexed (tableOf (now links)) (now index) ⌝ }
     ensures { λ r. ⌜ loadAnswer r ≡ tableChecks (networkOf n (now (links .entry)) root first last) ⌝ }
 {
     let m = links.len() / 2;
@@ -259,9 +308,9 @@ pub fn check_table(n: u16, links: &[u16], root: u16, first: u16, last: u16) -> L
     if own < m {
         return Load::Refused(3, own as u16);
     }
-    let repeated = first_repeated_link(links);
+    let repeated = first_repeated_link(links, index);
     if repeated < m {
         return Load::Refused(4, repeated as u16);
     }
-    check_names(n, links, root, first, last)
+    check_names(n, links, index, root, first, last)
 }

@@ -11,8 +11,8 @@ use Rattle.network.proofs.check_table.Tie as tie
 first-link-too-large-requires : tie.Need-first-link-too-large-requires
 first-link-too-large-requires c κs = search needs
 
-cast-t12 : tie.Need-cast-t12
-cast-t12 c = search needs
+cast-t13 : tie.Need-cast-t13
+cast-t13 c = search needs
 
 returns : tie.Need-returns
 unfolding tableChecks linkTooLarge former latter size
@@ -21,8 +21,8 @@ returns c = sym (check-hit 2 _ _ _ (c .before .first-link-too-large .ensures) (o
 first-self-link-requires : tie.Need-first-self-link-requires
 first-self-link-requires c κs = search needs
 
-cast-t13 : tie.Need-cast-t13
-cast-t13 c = search needs
+cast-t14 : tie.Need-cast-t14
+cast-t14 c = search needs
 
 returns-2 : tie.Need-returns-2
 unfolding tableChecks linkTooLarge selfLink former latter size
@@ -36,8 +36,8 @@ returns-2 c =
 first-repeated-link-requires : tie.Need-first-repeated-link-requires
 first-repeated-link-requires c κs = search needs
 
-cast-t14 : tie.Need-cast-t14
-cast-t14 c = search needs
+cast-t15 : tie.Need-cast-t15
+cast-t15 c = search needs
 
 returns-3 : tie.Need-returns-3
 unfolding tableChecks linkTooLarge selfLink repeatedLink joins former latter size
@@ -70,13 +70,13 @@ check-table-spec =
     tie.close
     (tie.spec
     first-link-too-large-requires
-    cast-t12
+    cast-t13
     returns
     first-self-link-requires
-    cast-t13
+    cast-t14
     returns-2
     first-repeated-link-requires
-    cast-t14
+    cast-t15
     returns-3
     check-names-requires
     returns-4)
