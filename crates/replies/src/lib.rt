@@ -1,7 +1,7 @@
 // Lines of threeways: the replies, written into a lent slice.
 // A place is an index into the slice; bytes are written from there on.
-ghost use mathlib.Core.List.{_∷_, map};
-ghost use Prim.Native.Nat.{_+_, _*_, _≤_};
+ghost use mathlib.Core.List.{[], _∷_, map};
+ghost use Prim.Native.Nat.{_+_, _*_, _%_, _≤_, _<_};
 ghost use lib.ListN.{length};
 ghost use Rattle.lines.specs.Writing.{decimal, spaced, separated};
 ghost use Rattle.replies.specs.Replies.{head, line, reply, opened, new, refused, closed, walked, cleared, unread, Wrote, Printed};
@@ -21,18 +21,61 @@ fn put(out: &mut [u8], at: usize, bytes: &[u8]) -> usize
     next
 }
 
-// Writes a number in decimal from index at on, and gives the index after it.
+// Writes the last digit of a number at index at, and gives the index after it.
+fn put_digit(out: &mut [u8], at: usize, n: u16) -> usize
+    requires { ⌜ at < length (now out) ⌝ }
+    ensures { λ r. ⌜ Wrote at ((48 + n % 10) ∷ []) (now (out .entry)) r (now (out .exit)) ⌝ }
+{
+    out[at] = b'0' + (n % 10) as u8;
+    at + 1
+}
+
+// Writes a number of two digits from index at on, and gives the index after it.
+fn put_two(out: &mut [u8], at: usize, n: u16) -> usize
+    requires { ⌜ (10 ≤ n) × (n < 100) × (at + length (decimal n) ≤ length (now out)) ⌝ }
+    ensures { λ r. ⌜ Wrote at (decimal n) (now (out .entry)) r (now (out .exit)) ⌝ }
+{
+    let next = put_digit(out, at, n / 10);
+    put_digit(out, next, n)
+}
+
+// The same of three digits.
+fn put_three(out: &mut [u8], at: usize, n: u16) -> usize
+    requires { ⌜ (100 ≤ n) × (n < 1000) × (at + length (decimal n) ≤ length (now out)) ⌝ }
+    ensures { λ r. ⌜ Wrote at (decimal n) (now (out .entry)) r (now (out .exit)) ⌝ }
+{
+    let next = put_two(out, at, n / 10);
+    put_digit(out, next, n)
+}
+
+// The same of four digits.
+fn put_four(out: &mut [u8], at: usize, n: u16) -> usize
+    requires { ⌜ (1000 ≤ n) × (n < 10000) × (at + length (decimal n) ≤ length (now out)) ⌝ }
+    ensures { λ r. ⌜ Wrote at (decimal n) (now (out .entry)) r (now (out .exit)) ⌝ }
+{
+    let next = put_three(out, at, n / 10);
+    put_digit(out, next, n)
+}
+
+// Writes a number in decimal from index at on, by the count of its digits, and gives the index after it.
 fn put_number(out: &mut [u8], at: usize, n: u16) -> usize
     requires { ⌜ at + length (decimal n) ≤ length (now out) ⌝ }
     ensures { λ r. ⌜ Wrote at (decimal n) (now (out .entry)) r (now (out .exit)) ⌝ }
 {
     if n < 10 {
-        out[at] = b'0' + n as u8;
-        return at + 1;
+        return put_digit(out, at, n);
     }
-    let next = put_number(out, at, n / 10);
-    out[next] = b'0' + (n % 10) as u8;
-    next + 1
+    if n < 100 {
+        return put_two(out, at, n);
+    }
+    if n < 1000 {
+        return put_three(out, at, n);
+    }
+    if n < 10000 {
+        return put_four(out, at, n);
+    }
+    let next = put_four(out, at, n / 10);
+    put_digit(out, next, n)
 }
 
 // Writes numbers from index at on, each after one space, and gives the index after them.
@@ -43,8 +86,8 @@ fn put_spaced(out: &mut [u8], at: usize, numbers: &[u16]) -> usize
     let mut next = at;
     let mut k = 0;
     while k < numbers.len() {
-        let space = put(out, next, b" ");
-        next = put_number(out, space, numbers[k]);
+        out[next] = b' ';
+        next = put_number(out, next + 1, numbers[k]);
         k += 1;
     }
     next
