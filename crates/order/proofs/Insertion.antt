@@ -1,36 +1,70 @@
--- Laws of the order in the code's terms: an ear's direction by the positions of its ends, and the order after one more ear, by that
--- direction.
+-- Laws of the order in the code's terms: the place of an ear by one search for both of its ends, and the order after one more ear,
+-- by that place.
 use mathlib.Core.Path.{_≡_, refl, sym, ap, ap₂, _∙_}
-use mathlib.Core.Logic.{⊎-elim}
-use mathlib.Core.Bool.{Bool, cond}
+use mathlib.Core.Logic.{⊎-elim, _≢_}
+use mathlib.Core.Bool.{Bool, true, false, not, _&&_, cond}
 use mathlib.Core.List.{List, _++_, reverse, append-assoc}
 use Prim.Native.Nat.{ℕ, suc, pred, min, _+_, _-_, _≤_, _<_}
 use native.Mathlib.Omega.{arith}
 use lib.Dec.{eqb, ltb}
-use lib.ListN.{length, take, drop, length-append, length-take, length-drop, length-reverse, drop-of-length-le}
+use lib.ListN.{length, take, drop, length-append, length-take, length-drop, length-reverse, drop-of-length-le, take-append-drop}
 use lib.Seq.{take-take, take-add, take-append-le, drop-at, ext-getD}
-use borrow.Author.Tests.{lt-ltb, le-ltb, le-leb, lt-leb}
+use borrow.Author.Tests.{lt-ltb, le-ltb, le-leb, lt-leb, eq-eqb, ne-eqb, ltb-true, ltb-false}
 use Rattle.mondschein.specs.Network.{at}
 use Rattle.mondschein.specs.Order.{position, upward, fromA, between, extend}
 use Rattle.mondschein.proofs.Logic.{less?}
 use Rattle.mondschein.proofs.Lists.{at-same, at-reverse}
-use Rattle.mondschein.proofs.Search.{low-is}
 use Rattle.mondschein.proofs.Order.{put, fromA-turned, between-length, between-at, extend-is}
-use Rattle.order.specs.Placed.{placed, placedCount}
+use Rattle.order.specs.Placed.{placed, placedCount, placeIn}
+use Rattle.order.specs.declared.Place.{Place}
 use Rattle.rows.proofs.Prefixes.{least-take}
+use Rattle.rows.proofs.Rows.{position-end, position-hit, position-found}
 use Rattle.order.proofs.Writing.{gap}
 
--- a position in the first c numbers
-pub position-within : {q : ℕ} (o : List ℕ) (c x : ℕ) → q ≡ position (take c o) x → q ≤ c
-unfolding position
-position-within {q} o c x h = omega (arith, low-is (λ k. eqb (at (take c o) k) x) (length (take c o)) .le, length-take c o)
+-- one search for both ends of an ear finds A
+module _ (o e : List ℕ) {k : ℕ} (found : k ≡ min (position o (at e 0)) (position o (at e (pred (length e))))) where
+  found-A : 0 < length e → k ≡ position o (at (fromA o e) 0)
+  unfolding fromA
+  found-A l = go (upward o e) refl
+    where
+      go : (b : Bool) → upward o e ≡ b → k ≡ position o (at (cond b e (reverse e)) 0)
+      go true t = omega (arith, ltb-true (position o (at e 0)) (position o (at e (pred (length e)))) t)
+      go false f =
+          let last : at e (pred (length e)) ≡ at (reverse e) 0 = at-same e _ _ (omega arith) ∙ sym (at-reverse e 0 l) in
+          let z : k ≡ position o (at e (pred (length e))) = omega (arith, ltb-false (position o (at e 0)) (position o (at e (pred (length e)))) f) in
+          z ∙ ap (position o) last
 
--- the direction by the positions of both ends
-pub upward-by : {r p q : ℕ} (b : ℕ) (o e : List ℕ) → r ≡ min b (length o) → p ≡ position (take r o) (at e 0) → q ≡ position (take r o) (at e (length e - 1)) → ltb p q ≡ upward (take b o) e
-upward-by b o e h s t =
-    ap₂ ltb
-    (s ∙ ap (λ (l : List ℕ). position l (at e 0)) (least-take b o h))
-    (t ∙ ap₂ position (least-take b o h) (at-same e _ _ (omega arith)))
+  -- and whether it is the former end: the number found is not the latter
+  found-upward : (ltb k (length o) && not (eqb (at o k) (at e (pred (length e))))) ≡ upward o e
+  found-upward = ⊎-elim former latter (less? (position o (at e 0)) (position o (at e (pred (length e)))))
+    where
+      former : position o (at e 0) < position o (at e (pred (length e))) → (ltb k (length o) && not (eqb (at o k) (at e (pred (length e))))) ≡ upward o e
+      former h =
+          let other : at o k ≢ at e (pred (length e)) = λ q. let z : position o (at e (pred (length e))) ≤ k = position-hit o _ k q in omega arith in
+          rw (lt-ltb k (length o) (omega (arith, position-end o (at e (pred (length e))))), ne-eqb _ _ other, lt-ltb _ _ h)
+
+      latter : position o (at e (pred (length e))) ≤ position o (at e 0) → (ltb k (length o) && not (eqb (at o k) (at e (pred (length e))))) ≡ upward o e
+      latter h =
+          ⊎-elim
+          (λ (l : k < length o).
+          let same : at o k ≡ at e (pred (length e)) = ap (at o) (let z : k ≡ position o (at e (pred (length e))) = omega arith in z) ∙ position-found o (at e (pred (length e))) (omega arith) in
+          rw (lt-ltb k (length o) l, eq-eqb _ _ same, le-ltb _ _ h))
+          (λ (l : length o ≤ k). rw (le-ltb k (length o) l, le-ltb _ _ h))
+          (less? k (length o))
+
+-- the place of an ear, by that search in the first c numbers of the order
+pub place-found : {c k i : ℕ} {u : Bool} (b : ℕ) (o e : List ℕ) → 0 < length e → c ≡ min b (length o)
+    → k ≡ min (position (take c o) (at e 0)) (position (take c o) (at e (length e - 1)))
+    → i ≡ min (k + 1) c
+    → u ≡ (ltb k (length (take c o)) && not (eqb (at (take c o) k) (at e (length e - 1))))
+    → record { at = i; upward = u } ≡ placeIn (take b o) e
+place-found {c} {k} {i} {u} b o e l h s t v =
+    let last : length e - 1 ≡ pred (length e) = omega arith in
+    let found : k ≡ min (position (take c o) (at e 0)) (position (take c o) (at e (pred (length e)))) = s ∙ ap (λ (j : ℕ). min (position (take c o) (at e 0)) (position (take c o) (at e j))) last in
+    ap₂ (λ (x : ℕ) (y : Bool). record { at = x; upward = y })
+    (let z : i ≡ min (suc (position (take c o) (at (fromA (take c o) e) 0))) (length (take c o)) = omega (arith, found-A (take c o) e found l, length-take c o) in z)
+    (v ∙ ap (λ (j : ℕ). ltb k (length (take c o)) && not (eqb (at (take c o) k) (at e j))) last ∙ found-upward (take c o) e found)
+    ∙ ap (λ (x : List ℕ). placeIn x e) (least-take b o h)
 
 -- the numbers between the ends, of an ear turned round
 between-reverse : (e : List ℕ) → between (reverse e) ≡ reverse (between e)
@@ -87,21 +121,6 @@ filled {g} {w} o new i count c n h room e q r =
         ∙ drop-at (take (i + c) o) (take (count - i) (drop i o) ++ drop (count + c) o) (i + n) (omega (arith, long))
         ∙ ap (λ (l : List ℕ). l ++ drop (count + c) o) (sym (drop-take i count o h (omega arith)))
 
--- a later ear, by the positions of its ends
-module _ (o e : List ℕ) (some : 0 < length o) where
-  extend-up : position o (at e 0) < position o (at e (pred (length e))) → extend o e ≡ put o (between e) (suc (position o (at e 0)))
-  unfolding fromA
-  extend-up h =
-      extend-is o e some
-      ∙ ap (λ (b : Bool). put o (between (cond b e (reverse e))) (suc (position o (at (cond b e (reverse e)) 0)))) (lt-ltb _ _ h)
-
-  extend-down : 0 < length e → position o (at e (pred (length e))) ≤ position o (at e 0) → extend o e ≡ put o (reverse (between e)) (suc (position o (at e (pred (length e)))))
-  unfolding fromA
-  extend-down l h =
-      extend-is o e some
-      ∙ ap (λ (b : Bool). put o (between (cond b e (reverse e))) (suc (position o (at (cond b e (reverse e)) 0)))) (le-ltb _ _ h)
-      ∙ ap₂ (λ (x : List ℕ) (k : ℕ). put o x (suc (position o k))) (between-reverse e) (at-reverse e 0 l ∙ at-same e _ _ (omega arith))
-
 -- the part of an ear between its ends
 abbrev inner : List ℕ → List ℕ
 inner e = take (length e - 1 - 1) (drop 1 e)
@@ -113,58 +132,67 @@ inner-between e = ap (λ (k : ℕ). take k (drop 1 e)) (let z : length e - 1 - 1
 pub inner-length : (e : List ℕ) → length (inner e) ≡ length e - 2
 inner-length e = omega (arith, length-take (length e - 1 - 1) (drop 1 e), length-drop 1 e)
 
-module _ (o e : List ℕ) (count : ℕ) (some : 1 ≤ count) (two : 2 ≤ length e) (room : count + (length e - 2) ≤ length o) where
-  order-length : length (take count o) ≡ count
-  order-length = omega (arith, length-take count o)
+-- the new switches of an ear from A to B, by the way it is written
+module _ (o e : List ℕ) where
+  between-up : upward o e ≡ true → inner e ≡ between (fromA o e)
+  unfolding fromA
+  between-up t = inner-between e ∙ ap (λ (b : Bool). between (cond b e (reverse e))) (sym t)
 
-  -- the former end comes earlier: the new switches as written, after it
-  pub inserted-up : {p q : ℕ} {g w : List ℕ} → p ≡ position (take count o) (at e 0) → q ≡ position (take count o) (at e (length e - 1)) → p < q
-      → g ≡ gap o (p + 1) count (length e - 2)
-      → w ≡ take (p + 1) g ++ (inner e ++ drop (p + 1 + length (inner e)) g)
-      → w ≡ extend (take count o) e ++ drop (count + (length e - 2)) o
-  inserted-up {p} {q} a b h s t =
-      filled o (inner e) (p + 1) count (length e - 2) (length (inner e)) (omega (arith, position-within o count _ b)) room (inner-length e) s t
-      ∙ ap (λ (l : List ℕ). l ++ drop (count + (length e - 2)) o)
-      (ap₂ (put (take count o)) (inner-between e) (let z : p + 1 ≡ suc (position (take count o) (at e 0)) = omega arith in z)
-      ∙ sym (extend-up (take count o) e (omega (arith, order-length)) (omega (arith, ap (position (take count o)) (at-same e (pred (length e)) (length e - 1) (omega arith))))))
+  between-down : upward o e ≡ false → reverse (inner e) ≡ between (fromA o e)
+  unfolding fromA
+  between-down f = ap reverse (inner-between e) ∙ sym (between-reverse e) ∙ ap (λ (b : Bool). between (cond b e (reverse e))) (sym f)
 
-  -- else: the new switches turned round, after the latter end
-  pub inserted-down : {p q r : ℕ} {g w : List ℕ} → p ≡ position (take count o) (at e 0) → q ≡ position (take count o) (at e (length e - 1)) → q ≤ p
-      → r ≡ min (q + 1) count
-      → g ≡ gap o r count (length e - 2)
-      → w ≡ take r g ++ (reverse (inner e) ++ drop (r + length (inner e)) g)
+-- the new switches of a later ear, written at its place
+module _ (o e : List ℕ) (count : ℕ) (some : 1 ≤ count) (room : count + (length e - 2) ≤ length o) {place : Place} (there : place ≡ placeIn (take count o) e)
+    {g w : List ℕ} (opened : g ≡ gap o (place .at) count (length e - 2)) where
+  inserted : (new : List ℕ) → new ≡ between (fromA (take count o) e) → w ≡ take (place .at) g ++ (new ++ drop (place .at + length (inner e)) g)
       → w ≡ extend (take count o) e ++ drop (count + (length e - 2)) o
-  inserted-down {p} {q} {r} a b h m s t =
-      let same : position (take count o) (at e (pred (length e))) ≡ q = ap (position (take count o)) (at-same e (pred (length e)) (length e - 1) (omega arith)) ∙ sym b in
-      filled o (reverse (inner e)) r count (length e - 2) (length (inner e)) (omega arith) room (inner-length e) s t
+  inserted new q t =
+      let long : length (take count o) ≡ count = omega (arith, length-take count o) in
+      let i : place .at ≡ min (suc (position (take count o) (at (fromA (take count o) e) 0))) (length (take count o)) = ap (λ (p : Place). p .at) there in
+      filled o new (place .at) count (length e - 2) (length (inner e)) (omega arith) room (inner-length e) opened t
       ∙ ap (λ (l : List ℕ). l ++ drop (count + (length e - 2)) o)
-      (put-within {r = r} (take count o) (reverse (inner e)) (q + 1) (omega (arith, order-length))
-      ∙ ap₂ (λ (x : List ℕ) (k : ℕ). put (take count o) (reverse x) k) (inner-between e) (let z : q + 1 ≡ suc (position (take count o) (at e (pred (length e)))) = omega arith in z)
-      ∙ sym (extend-down (take count o) e (omega (arith, order-length)) (omega arith) (omega arith)))
+      (put-within {r = place .at} (take count o) new _ i
+      ∙ ap (λ (x : List ℕ). put (take count o) x (suc (position (take count o) (at (fromA (take count o) e) 0)))) q
+      ∙ sym (extend-is (take count o) e (omega arith)))
+
+  pub inserted-up : place .upward ≡ true → w ≡ take (place .at) g ++ (inner e ++ drop (place .at + length (inner e)) g) → w ≡ extend (take count o) e ++ drop (count + (length e - 2)) o
+  inserted-up u t = inserted (inner e) (between-up (take count o) e (sym (ap (λ (p : Place). p .upward) there) ∙ u)) t
+
+  pub inserted-down : place .upward ≡ false → w ≡ take (place .at) g ++ (reverse (inner e) ++ drop (place .at + length (inner e)) g) → w ≡ extend (take count o) e ++ drop (count + (length e - 2)) o
+  inserted-down u t = inserted (reverse (inner e)) (between-down (take count o) e (sym (ap (λ (p : Place). p .upward) there) ∙ u)) t
+
+-- an ear of two numbers leaves the order as it is
+pub extend-two : (o e : List ℕ) → 0 < length o → length e ≡ 2 → extend o e ≡ o
+unfolding between
+extend-two o e some two =
+    let m : ℕ = suc (position o (at (fromA o e) 0)) in
+    extend-is o e some
+    ∙ ap (λ (k : ℕ). take m o ++ (take k (drop 1 (fromA o e)) ++ drop m o)) (let z : pred (pred (length (fromA o e))) ≡ 0 = omega (arith, fromA-turned o e .long) in z)
+    ∙ take-append-drop m o
 
 -- a list kept at the start of an array, with room and without
 with-room : {r : ℕ} {w : List ℕ} (l row : List ℕ) (old : ℕ) → length l ≡ r → r ≤ length row → w ≡ l ++ drop r row → (r ≡ placedCount l row old) × (w ≡ placed l row)
 unfolding placed placedCount
 with-room l row old e h q = rw (le-leb (length l) (length row) (omega arith)) (sym e, q ∙ ap (λ (k : ℕ). l ++ drop k row) (sym e))
 
-without-room : (l row : List ℕ) (old : ℕ) → length row < length l → (old ≡ placedCount l row old) × (row ≡ placed l row)
+pub without-room : (l row : List ℕ) (old : ℕ) → length row < length l → (old ≡ placedCount l row old) × (row ≡ placed l row)
 unfolding placed placedCount
 without-room l row old h = rw (lt-leb (length l) (length row) h) (refl, refl)
 
+-- a first ear as written
+pub first-placed : {w : List ℕ} (o e : List ℕ) → length e ≤ length o → w ≡ e ++ drop (0 + length e) o → (length e ≡ placedCount e o 0) × (w ≡ placed e o)
+first-placed o e l q = with-room e o 0 refl l (q ∙ ap (λ (k : ℕ). e ++ drop k o) (let z : 0 + length e ≡ length e = omega arith in z))
+
 -- one more ear, by the count r of the order
 module _ {r : ℕ} (o e : List ℕ) (b : ℕ) (h : r ≡ min b (length o)) where
-  -- nothing is born: the ear as written
-  extend-none : r ≡ 0 → extend (take b o) e ≡ e
-  unfolding extend
-  extend-none z = ap (λ (l : List ℕ). extend l e) (sym (least-take b o h) ∙ ap (λ (k : ℕ). take k o) z)
+  -- the place in the order is within it
+  pub place-here : {place : Place} → place ≡ placeIn (take b o) e → place ≡ placeIn (take r o) e
+  place-here q = q ∙ ap (λ (l : List ℕ). placeIn l e) (sym (least-take b o h))
 
-  pub first-placed : {w : List ℕ} → r ≡ 0 → length e ≤ length o → w ≡ e ++ drop (0 + length e) o → (length e ≡ placedCount (extend (take b o) e) o b) × (w ≡ placed (extend (take b o) e) o)
-  first-placed z l q = rw (extend-none z) (with-room e o b refl l (q ∙ ap (λ (k : ℕ). e ++ drop k o) (let z : 0 + length e ≡ length e = omega arith in z)))
+  pub place-within : {place : Place} → place ≡ placeIn (take b o) e → place .at ≤ r
+  place-within q = omega (arith, ap (λ (p : Place). p .at) q, length-take b o)
 
-  pub first-not-placed : r ≡ 0 → length o < length e → (b ≡ placedCount (extend (take b o) e) o b) × (o ≡ placed (extend (take b o) e) o)
-  first-not-placed z l = rw (extend-none z) (without-room e o b l)
-
-  -- something is born
   extend-count : 0 < r → length (extend (take b o) e) ≡ r + (length e - 2)
   extend-count l =
       let t : List ℕ = take b o in
@@ -188,3 +216,13 @@ module _ {r : ℕ} (o e : List ℕ) (b : ℕ) (h : r ≡ min b (length o)) where
 
   pub later-not-placed : 0 < r → length o < r + (length e - 2) → (b ≡ placedCount (extend (take b o) e) o b) × (o ≡ placed (extend (take b o) e) o)
   later-not-placed z l = without-room (extend (take b o) e) o b (omega (arith, extend-count z))
+
+  -- an ear of two numbers
+  pub two-placed : 0 < r → length e ≡ 2 → (r ≡ placedCount (extend (take b o) e) o b) × (o ≡ placed (extend (take b o) e) o)
+  two-placed z two =
+      let none : r + (length e - 2) ≡ r = omega arith in
+      let kept : o ≡ extend (take r o) e ++ drop (r + (length e - 2)) o =
+      sym (ap₂ _++_ (extend-two (take r o) e (omega (arith, length-take r o)) two) (ap (λ (k : ℕ). drop k o) none) ∙ take-append-drop r o)
+      in
+      let p = later-placed z (omega arith) kept in
+      (sym none ∙ p .0, p .1)

@@ -1,21 +1,47 @@
 // The order of switches on a lent slice, with the insertion of an ear's new switches.
 // The order is kept at the start of an array, with its count.
 ghost use mathlib.Core.Path.{_≡_};
+ghost use mathlib.Core.Bool.{not, _&&_};
 ghost use mathlib.Core.List.{_++_, reverse};
-ghost use Prim.Native.Nat.{_+_, _-_, _≤_};
+ghost use Prim.Native.Nat.{min, _+_, _-_, _≤_};
+ghost use lib.Dec.{eqb, ltb};
 ghost use lib.ListN.{length, take, drop};
-ghost use Rattle.mondschein.specs.Order.{upward, extend};
-ghost use Rattle.order.specs.Placed.{placed, placedCount};
+ghost use Rattle.mondschein.specs.Network.{at};
+ghost use Rattle.mondschein.specs.Order.{extend};
+ghost use Rattle.order.specs.Placed.{placed, placedCount, placeIn};
 
-// The ear is written from the end that comes earlier in the order.
-pub fn upward(order: &[u16], born: u16, ear: &[u16]) -> bool
+// Where the new switches of a later ear go in the order, and whether the ear is written from A to B.
+pub struct Place {
+    pub at: usize,
+    pub upward: bool,
+}
+
+// There is a number at index k, and it is not x.
+fn differs_at(list: &[u16], k: usize, x: u16) -> bool
+    ensures { λ r. ⌜ r ≡ (ltb k (length (now (list .entry))) && not (eqb (at (now (list .entry)) k) x)) ⌝ }
+{
+    if list.len() <= k {
+        return false;
+    }
+    list[k] != x
+}
+
+// The place of a later ear in the order, by one search for both of its ends.
+pub fn place_of(order: &[u16], born: u16, ear: &[u16]) -> Place
     requires { ⌜ 1 ≤ length (now ear) ⌝ }
-    ensures { λ r. ⌜ r ≡ upward (take born (now (order .entry))) (now (ear .entry)) ⌝ }
+    ensures { λ r. ⌜ r ≡ placeIn (take born (now (order .entry))) (now (ear .entry)) ⌝ }
 {
     let len = ear.len();
     let count = rows::least(born as usize, order.len());
     let list = &order[..count];
-    rows::position_of(list, ear[0]) < rows::position_of(list, ear[len - 1])
+    let last = ear[len - 1];
+    let k = rows::position_of_either(list, ear[0], last);
+    let at = rows::least(k + 1, count);
+    let upward = differs_at(list, k, last);
+    Place {
+        at: at,
+        upward: upward,
+    }
 }
 
 // Moves the numbers from index at up to count by c places, the last one first.
@@ -55,44 +81,46 @@ fn write_reversed(order: &mut [u16], at: usize, part: &[u16])
     }
 }
 
-// A later ear, where its new switches have room: from A to B, directly after A.
-fn insert_later(order: &mut [u16], count: usize, ear: &[u16])
-    requires { ⌜ (1 ≤ count) × (2 ≤ length (now ear)) × (count + (length (now ear) - 2) ≤ length (now order)) ⌝ }
-    ensures { λ _. ⌜ now (order .exit) ≡ extend (take count (now (order .entry))) (now (ear .entry)) ++ drop (count + (length (now (ear .entry)) - 2)) (now (order .entry)) ⌝ }
+// The order after a first ear, in place, and its count: the ear stands as written, and without room nothing changes.
+pub fn begin(order: &mut [u16], ear: &[u16]) -> u16
+    requires { ⌜ length (now order) ≤ 1024 ⌝ }
+    ensures { λ r. ⌜ (r ≡ placedCount (now (ear .entry)) (now (order .entry)) 0) × (now (order .exit) ≡ placed (now (ear .entry)) (now (order .entry))) ⌝ }
 {
     let len = ear.len();
-    let part = &ear[1..len - 1];
-    let former = rows::position_of(&order[..count], ear[0]);
-    let latter = rows::position_of(&order[..count], ear[len - 1]);
-    if former < latter {
-        open_gap(order, former + 1, count, len - 2);
-        write_at(order, former + 1, part);
-        return;
+    if order.len() < len {
+        return 0;
     }
-    let at = rows::least(latter + 1, count);
-    open_gap(order, at, count, len - 2);
-    write_reversed(order, at, part);
+    write_at(order, 0, ear);
+    len as u16
 }
 
-// The order after one more ear, in place, and its count: a first ear stands as written, and without room nothing changes.
-pub fn insert(order: &mut [u16], born: u16, ear: &[u16]) -> u16
-    requires { ⌜ (2 ≤ length (now ear)) × (length (now order) ≤ 1024) ⌝ }
+// The order after a later ear, in place, and its count: without room nothing changes.
+pub fn insert(order: &mut [u16], born: u16, ear: &[u16], place: Place) -> u16
+    requires { ⌜ (2 ≤ length (now ear)) × (1 ≤ born) × (length (now order) ≡ 1024) × (place ≡ placeIn (take born (now order)) (now ear)) ⌝ }
     ensures { λ r. ⌜ (r ≡ placedCount (extend (take born (now (order .entry))) (now (ear .entry))) (now (order .entry)) born) × (now (order .exit) ≡ placed (extend (take born (now (order .entry))) (now (ear .entry))) (now (order .entry))) ⌝ }
 {
     let len = ear.len();
     let room = order.len();
     let count = rows::least(born as usize, room);
-    if count == 0 {
-        if room < len {
-            return born;
-        }
-        write_at(order, 0, ear);
-        return len as u16;
-    }
     let grown = count + (len - 2);
     if room < grown {
         return born;
     }
-    insert_later(order, count, ear);
+    let at = place.at;
+    let part = &ear[1..len - 1];
+    open_gap(order, at, count, len - 2);
+    if place.upward {
+        write_at(order, at, part);
+        return grown as u16;
+    }
+    write_reversed(order, at, part);
     grown as u16
+}
+
+// The count of an order that an ear of two numbers leaves as it is.
+pub fn same_count(order: &[u16], born: u16) -> u16
+    requires { ⌜ length (now order) ≤ 1024 ⌝ }
+    ensures { λ r. ⌜ r ≡ min born (length (now (order .entry))) ⌝ }
+{
+    rows::least(born as usize, order.len()) as u16
 }

@@ -46,6 +46,17 @@ pub fn mark(used: &mut [u8], l: usize)
     }
 }
 
+// No mark is left.
+pub fn unmark(marks: &mut [u8])
+    ensures { λ _. ⌜ now (marks .exit) ≡ replicate (length (now (marks .entry))) 0 ⌝ }
+{
+    let mut i = 0;
+    while i < marks.len() {
+        marks[i] = 0;
+        i += 1;
+    }
+}
+
 // Every entry is x.
 pub fn fill(row: &mut [u16], x: u16)
     ensures { λ _. ⌜ now (row .exit) ≡ replicate (length (now (row .entry))) x ⌝ }
@@ -64,6 +75,24 @@ pub fn position_of(list: &[u16], x: u16) -> usize
     let mut k = 0;
     while k < list.len() {
         if list[k] == x {
+            return k;
+        }
+        k += 1;
+    }
+    k
+}
+
+// The index of the first number of the list that is a or b, or its length.
+pub fn position_of_either(list: &[u16], a: u16, b: u16) -> usize
+    ensures { λ r. ⌜ r ≡ min (position (now (list .entry)) a) (position (now (list .entry)) b) ⌝ }
+{
+    let mut k = 0;
+    while k < list.len() {
+        let x = list[k];
+        if x == a {
+            return k;
+        }
+        if x == b {
             return k;
         }
         k += 1;

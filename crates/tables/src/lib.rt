@@ -1,16 +1,19 @@
 // The tables of a session on lent slices: what one accepted ear changes in them, tree 3, and the check of closing.
 // A number past the end of a table changes nothing.
 ghost use mathlib.Core.Path.{_≡_};
-ghost use mathlib.Core.Bool.{true, _&&_, cond};
+ghost use mathlib.Core.Bool.{true, false, _&&_, cond};
 ghost use mathlib.Core.List.{[]};
 ghost use Prim.Native.Nat.{suc, pred, _≤_};
 ghost use lib.Dec.{ltb};
 ghost use lib.ListN.{length, set, take};
 ghost use Rattle.mondschein.specs.Network.{low, at, joined, linkOf};
 ghost use Rattle.mondschein.specs.Judge.{closing};
+ghost use Rattle.mondschein.specs.Order.{between, extend};
+ghost use Rattle.network.specs.Index.{Indexed};
 ghost use Rattle.network.specs.Load.{networkOf, tableOf};
+ghost use Rattle.order.specs.Placed.{placed, placedCount};
 ghost use Rattle.rows.specs.Rows.{marked};
-ghost use Rattle.tables.specs.Tables.{assigned, usedAfter, longsAfter, newOf, birthsAfter, neighbours, tree1After, tree2After, tablesOf, afterEar, tree3Of, closeAnswer};
+ghost use Rattle.tables.specs.Tables.{assigned, usedAfter, longsAfter, birthsAfter, neighbours, tree1After, tree2After, tablesOf, afterEar, tree3Of, closeAnswer};
 
 // The answer to close: closed, or a refusal's number and place.
 pub enum Close {
@@ -19,26 +22,27 @@ pub enum Close {
 }
 
 // Marks the links between two neighbours of the ear.
-fn mark_along(links: &[u16], ear: &[u16], used: &mut [u8])
+fn mark_along(links: &[u16], index: &[u16], ear: &[u16], used: &mut [u8])
+    requires { ⌜ Indexed (tableOf (now links)) (now index) ⌝ }
     ensures { λ _. ⌜ now (used .exit) ≡ assigned (now (used .entry)) (λ k. linkOf (tableOf (now (links .entry))) (at (now (ear .entry)) k) (at (now (ear .entry)) (suc k))) (λ k. 1) (pred (length (now (ear .entry)))) ⌝ }
 {
     let mut k = 0;
     while k + 1 < ear.len() {
-        let l = network::link_of(links, ear[k], ear[k + 1]);
+        let l = network::link_by(links, index, ear[k], ear[k + 1]);
         rows::mark(used, l);
         k += 1;
     }
 }
 
 // Marks the links of an ear, and of a first ear its closing link.
-fn mark_ear(links: &[u16], initial: bool, ear: &[u16], used: &mut [u8])
-    requires { ⌜ 2 ≤ length (now ear) ⌝ }
+fn mark_ear(links: &[u16], index: &[u16], initial: bool, ear: &[u16], used: &mut [u8])
+    requires { ⌜ (2 ≤ length (now ear)) × Indexed (tableOf (now links)) (now index) ⌝ }
     ensures { λ _. ⌜ now (used .exit) ≡ usedAfter (tableOf (now (links .entry))) initial (now (ear .entry)) (now (used .entry)) ⌝ }
 {
-    mark_along(links, ear, used);
+    mark_along(links, index, ear, used);
     if initial {
         let len = ear.len();
-        let l = network::link_of(links, ear[len - 1], ear[0]);
+        let l = network::link_by(links, index, ear[len - 1], ear[0]);
         rows::mark(used, l);
     }
 }
@@ -108,29 +112,44 @@ fn count_long(longs: u16, ear: &[u16]) -> u16
     longs + 1
 }
 
-// Births and the parents in trees 1 and 2 of the new switches of an accepted ear, which is long ear b where it is long.
-fn set_new(
-    initial: bool,
+// A first ear: births in long ear b, trees 1 and 2, and the order, with its count.
+fn accept_first(
     b: u16,
-    order: &[u16],
+    ear: &[u16],
+    births: &mut [u16],
+    order: &mut [u16],
+    tree1: &mut [u16],
+    tree2: &mut [u16],
+) -> u16
+    requires { ⌜ (2 ≤ length (now ear)) × (length (now order) ≤ 1024) ⌝ }
+    ensures { λ r. ⌜ (now (births .exit) ≡ birthsAfter b (now (ear .entry)) (now (births .entry))) × (now (tree1 .exit) ≡ tree1After true [] (now (ear .entry)) (now (tree1 .entry))) × (now (tree2 .exit) ≡ tree2After true [] (now (ear .entry)) (now (tree2 .entry))) × (r ≡ placedCount (now (ear .entry)) (now (order .entry)) 0) × (now (order .exit) ≡ placed (now (ear .entry)) (now (order .entry))) ⌝ }
+{
+    set_births(ear, b, births);
+    set_first_parents(ear, tree1, tree2);
+    order::begin(order, ear)
+}
+
+// The same of a later ear, with one search for its place; an ear of two numbers changes none of them.
+fn accept_later(
+    b: u16,
     born: u16,
     ear: &[u16],
     births: &mut [u16],
+    order: &mut [u16],
     tree1: &mut [u16],
     tree2: &mut [u16],
-)
-    requires { ⌜ 2 ≤ length (now ear) ⌝ }
-    ensures { λ _. ⌜ (now (births .exit) ≡ birthsAfter b (newOf initial (now (ear .entry))) (now (births .entry))) × (now (tree1 .exit) ≡ tree1After initial (take born (now (order .entry))) (now (ear .entry)) (now (tree1 .entry))) × (now (tree2 .exit) ≡ tree2After initial (take born (now (order .entry))) (now (ear .entry)) (now (tree2 .entry))) ⌝ }
+) -> u16
+    requires { ⌜ (2 ≤ length (now ear)) × (1 ≤ born) × (length (now order) ≡ 1024) ⌝ }
+    ensures { λ r. ⌜ (now (births .exit) ≡ birthsAfter b (between (now (ear .entry))) (now (births .entry))) × (now (tree1 .exit) ≡ tree1After false (take born (now (order .entry))) (now (ear .entry)) (now (tree1 .entry))) × (now (tree2 .exit) ≡ tree2After false (take born (now (order .entry))) (now (ear .entry)) (now (tree2 .entry))) × (r ≡ placedCount (extend (take born (now (order .entry))) (now (ear .entry))) (now (order .entry)) born) × (now (order .exit) ≡ placed (extend (take born (now (order .entry))) (now (ear .entry))) (now (order .entry))) ⌝ }
 {
-    if initial {
-        set_births(ear, b, births);
-        set_first_parents(ear, tree1, tree2);
-        return;
-    }
     let len = ear.len();
+    if len == 2 {
+        return order::same_count(order, born);
+    }
     set_births(&ear[1..len - 1], b, births);
-    let upward = order::upward(order, born, ear);
-    set_later_parents(upward, ear, tree1, tree2);
+    let place = order::place_of(order, born, ear);
+    set_later_parents(place.upward, ear, tree1, tree2);
+    order::insert(order, born, ear, place)
 }
 
 // The counts that an ear leaves: of the long ears, and of the switches in the order.
@@ -142,6 +161,7 @@ pub struct Counts {
 // Writes an accepted ear into the tables.
 pub fn accept(
     links: &[u16],
+    index: &[u16],
     ear: &[u16],
     longs: u16,
     born: u16,
@@ -151,14 +171,20 @@ pub fn accept(
     tree1: &mut [u16],
     tree2: &mut [u16],
 ) -> Counts
-    requires { ⌜ (2 ≤ length (now ear)) × (length (now order) ≤ 1024) ⌝ }
+    requires { ⌜ (2 ≤ length (now ear)) × (length (now order) ≡ 1024) × Indexed (tableOf (now links)) (now index) ⌝ }
     ensures { λ r. ⌜ tablesOf (now (used .exit)) (r .longs) (now (births .exit)) (r .born) (now (order .exit)) (now (tree1 .exit)) (now (tree2 .exit)) ≡ afterEar (tableOf (now (links .entry))) (now (ear .entry)) (tablesOf (now (used .entry)) longs (now (births .entry)) born (now (order .entry)) (now (tree1 .entry)) (now (tree2 .entry))) ⌝ }
 {
     let initial = born == 0;
     let counted = count_long(longs, ear);
-    mark_ear(links, initial, ear, used);
-    set_new(initial, counted, order, born, ear, births, tree1, tree2);
-    let grown = order::insert(order, born, ear);
+    mark_ear(links, index, initial, ear, used);
+    if initial {
+        let begun = accept_first(counted, ear, births, order, tree1, tree2);
+        return Counts {
+            longs: counted,
+            born: begun,
+        };
+    }
+    let grown = accept_later(counted, born, ear, births, order, tree1, tree2);
     Counts {
         longs: counted,
         born: grown,

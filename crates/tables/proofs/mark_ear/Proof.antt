@@ -6,25 +6,25 @@ use Rattle.tables.proofs.mark_ear.Tie as tie
 
 -- the way back from a place to the one before it that is cited
 abbrev before-mark-along : tie.After-mark-along → tie.Start
-before-mark-along c = c .before .before .before .before .before
+before-mark-along c = c .before .before .before .before .before .before
 
 mark-along-requires : tie.Need-mark-along-requires
 mark-along-requires c κs = search needs
 
-sub-link-of : tie.Need-sub-link-of
-sub-link-of c = search needs
+sub-link-by : tie.Need-sub-link-by
+sub-link-by c = search needs
 
-mul-link-of : tie.Need-mul-link-of
-mul-link-of c = search needs
+mul-link-by : tie.Need-mul-link-by
+mul-link-by c = search needs
 
-shared-slice-read-link-of : tie.Need-shared-slice-read-link-of
-shared-slice-read-link-of c = search needs
+shared-slice-read-link-by : tie.Need-shared-slice-read-link-by
+shared-slice-read-link-by c = search needs
 
-shared-slice-read-link-of-2 : tie.Need-shared-slice-read-link-of-2
-shared-slice-read-link-of-2 c = search needs
+shared-slice-read-link-by-2 : tie.Need-shared-slice-read-link-by-2
+shared-slice-read-link-by-2 c = search needs
 
-link-of-requires : tie.Need-link-of-requires
-link-of-requires c κs = search needs
+link-by-requires : tie.Need-link-by-requires
+link-by-requires c κs = search needs
 
 mark-requires : tie.Need-mark-requires
 mark-requires c κs = search needs
@@ -35,12 +35,12 @@ same-length c = search needs
 returns : tie.Need-returns
 returns c =
     let at-mark = c .before .before in
-    let at-link-of = at-mark .before .before in
-    let at-if1 = at-link-of .before .before .before in
+    let at-link-by = at-mark .before .before in
+    let at-if1 = at-link-by .before .before .before in
     let at-mark-along = at-if1 .before .before .before in
     let a = before-mark-along at-mark-along .args in
     used-first (tableOf (a .links .now)) (a .initial) (a .ear .now) (a .used .now) (at-mark-along .mark-along .ensures) (at-if1 .if1 .taken)
-    (at-link-of .link-of .ensures) (at-mark .mark .ensures)
+    (at-link-by .link-by .ensures) (at-mark .mark .ensures)
 
 same-length-2 : tie.Need-same-length-2
 same-length-2 c = search needs
@@ -56,11 +56,11 @@ mark-ear-spec =
     tie.close
     (tie.spec
     mark-along-requires
-    sub-link-of
-    mul-link-of
-    shared-slice-read-link-of
-    shared-slice-read-link-of-2
-    link-of-requires
+    sub-link-by
+    mul-link-by
+    shared-slice-read-link-by
+    shared-slice-read-link-by-2
+    link-by-requires
     mark-requires
     same-length
     returns
