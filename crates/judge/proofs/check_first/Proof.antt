@@ -11,14 +11,14 @@ use Rattle.judge.proofs.check_first.Tie as tie
 
 -- the way back from a place to the one before it that is cited
 abbrev before-else1 : tie.Else1 → tie.Start
-before-else1 c = c .before .before .before .before .before
+before-else1 c = c .before .before .before .before .before .before
 
 shared-slice-read-if1 : tie.Need-shared-slice-read-if1
 shared-slice-read-if1 c = search needs
 
 returns : tie.Need-returns
 returns c =
-    let a = c .before .before .before .before .before .args in
+    let a = c .before .before .before .before .before .before .args in
     sym (first-12-root (a .n) (a .links .now) (a .root) (a .first) (a .last) (a .births .now) (a .ear .now) (c .if1 .taken))
 
 sub-if2 : tie.Need-sub-if2
@@ -38,8 +38,8 @@ returns-2 c =
 position-of-requires : tie.Need-position-of-requires
 position-of-requires c κs = search needs
 
-cast-t17 : tie.Need-cast-t17
-cast-t17 c = search needs
+cast-t18 : tie.Need-cast-t18
+cast-t18 c = search needs
 
 returns-3 : tie.Need-returns-3
 returns-3 c =
@@ -58,8 +58,8 @@ returns-3 c =
 first-cut-off-requires : tie.Need-first-cut-off-requires
 first-cut-off-requires c κs = search needs
 
-cast-t18 : tie.Need-cast-t18
-cast-t18 c = search needs
+cast-t19 : tie.Need-cast-t19
+cast-t19 c = search needs
 
 returns-4 : tie.Need-returns-4
 returns-4 c =
@@ -78,8 +78,8 @@ returns-4 c =
     (at-if3 .if3 .left)
     ∙ check-hit 16 _ _ _ (at-first-cut-off .first-cut-off .ensures) (c .if4 .taken))
 
-cast-t12 : tie.Need-cast-t12
-cast-t12 c = search needs
+cast-t13 : tie.Need-cast-t13
+cast-t13 c = search needs
 
 returns-5 : tie.Need-returns-5
 returns-5 c =
@@ -109,10 +109,10 @@ check-first-spec =
     shared-slice-read-if2
     returns-2
     position-of-requires
-    cast-t17
+    cast-t18
     returns-3
     first-cut-off-requires
-    cast-t18
+    cast-t19
     returns-4
-    cast-t12
+    cast-t13
     returns-5)

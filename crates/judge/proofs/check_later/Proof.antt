@@ -15,7 +15,7 @@ use Rattle.judge.proofs.check_later.Tie as tie
 
 -- the way back from a place to the one before it that is cited
 abbrev before-first-unborn-end : tie.After-first-unborn-end → tie.Start
-before-first-unborn-end c = c .before .before .before .before
+before-first-unborn-end c = c .before .before .before .before .before
 
 abbrev before-first-born : tie.After-first-born → tie.After-first-unborn-end
 before-first-born c = c .before .before .before
@@ -23,8 +23,8 @@ before-first-born c = c .before .before .before
 first-unborn-end-requires : tie.Need-first-unborn-end-requires
 first-unborn-end-requires c κs = search needs
 
-cast-t14 : tie.Need-cast-t14
-cast-t14 c = search needs
+cast-t15 : tie.Need-cast-t15
+cast-t15 c = search needs
 
 returns : tie.Need-returns
 unfolding newCount
@@ -53,11 +53,11 @@ first-born-requires c κs = search needs
 sub-if2 : tie.Need-sub-if2
 sub-if2 c = search needs
 
-add-t19 : tie.Need-add-t19
-add-t19 c = search needs
+add-t20 : tie.Need-add-t20
+add-t20 c = search needs
 
-cast-t20 : tie.Need-cast-t20
-cast-t20 c = search needs
+cast-t21 : tie.Need-cast-t21
+cast-t21 c = search needs
 
 returns-2 : tie.Need-returns-2
 unfolding newCount
@@ -73,8 +73,8 @@ returns-2 c =
 last-too-early-requires : tie.Need-last-too-early-requires
 last-too-early-requires c κs = search needs
 
-cast-t21 : tie.Need-cast-t21
-cast-t21 c = search needs
+cast-t22 : tie.Need-cast-t22
+cast-t22 c = search needs
 
 returns-3 : tie.Need-returns-3
 unfolding newCount
@@ -95,11 +95,11 @@ first-cut-off-requires c κs = search needs
 sub-if4 : tie.Need-sub-if4
 sub-if4 c = search needs
 
-add-t22 : tie.Need-add-t22
-add-t22 c = search needs
+add-t23 : tie.Need-add-t23
+add-t23 c = search needs
 
-cast-t23 : tie.Need-cast-t23
-cast-t23 c = search needs
+cast-t24 : tie.Need-cast-t24
+cast-t24 c = search needs
 
 returns-4 : tie.Need-returns-4
 unfolding newCount
@@ -119,11 +119,11 @@ returns-4 c =
     (omega arith))
     (omega arith))
 
-sub-t15 : tie.Need-sub-t15
-sub-t15 c = search needs
+sub-t16 : tie.Need-sub-t16
+sub-t16 c = search needs
 
-cast-t24 : tie.Need-cast-t24
-cast-t24 c = search needs
+cast-t25 : tie.Need-cast-t25
+cast-t25 c = search needs
 
 returns-5 : tie.Need-returns-5
 unfolding newCount
@@ -149,7 +149,7 @@ check-later-spec =
     tie.close
     (tie.spec
     first-unborn-end-requires
-    cast-t14
+    cast-t15
     returns
     sub-part
     sub-part-2
@@ -157,17 +157,17 @@ check-later-spec =
     part-part-end
     first-born-requires
     sub-if2
-    add-t19
-    cast-t20
+    add-t20
+    cast-t21
     returns-2
     last-too-early-requires
-    cast-t21
+    cast-t22
     returns-3
     first-cut-off-requires
     sub-if4
-    add-t22
-    cast-t23
-    returns-4
-    sub-t15
+    add-t23
     cast-t24
+    returns-4
+    sub-t16
+    cast-t25
     returns-5)

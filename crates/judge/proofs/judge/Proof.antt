@@ -1,6 +1,6 @@
 use mathlib.Core.Path.{sym, ap, _∙_}
 use mathlib.Core.List.{[], _∷_}
-use Rattle.judge.specs.Ear.{earAnswer}
+use Rattle.shape.specs.Shape.{earAnswer}
 use Rattle.judge.proofs.Answers.{verdict-refused, verdict-first, verdict-later}
 use borrow.Author.Needs.{needs}
 use Rattle.judge.proofs.judge.Statement.{statement}
@@ -8,7 +8,7 @@ use Rattle.judge.proofs.judge.Tie as tie
 
 -- the way back from a place to the one before it that is cited
 abbrev before-check-shape : tie.After-check-shape → tie.Start
-before-check-shape c = c .before .before .before .before .before
+before-check-shape c = c .before .before .before .before .before .before
 
 check-shape-requires : tie.Need-check-shape-requires
 check-shape-requires c κs = search needs
@@ -33,18 +33,20 @@ check-first-requires : tie.Need-check-first-requires
 check-first-requires c κs =
     let at-shape = c .before .before in
     let at-check-shape = at-shape .before .before in
-    let a = before-check-shape at-check-shape .args in
+    let start = before-check-shape at-check-shape in
+    let a = start .args in
     let t = at-shape .shape .given in
     let l = verdict-first (a .n) (a .links .now) (a .root) (a .first) (a .last) (a .births .now) (a .ear .now) (a .used .now) (a .initial) _
     (t .0 .0 ∷ []) (sym (at-check-shape .check-shape .ensures) ∙ ap earAnswer (t .1)) (c .if1 .taken) in
-    (l .1, l .2)
+    (l .1, l .2, start .pre)
 
 returns-2 : tie.Need-returns-2
 returns-2 c =
     let at-if1 = c .before in
     let at-shape = at-if1 .before .before in
     let at-check-shape = at-shape .before .before in
-    let a = before-check-shape at-check-shape .args in
+    let start = before-check-shape at-check-shape in
+    let a = start .args in
     let t = at-shape .shape .given in
     let l = verdict-first (a .n) (a .links .now) (a .root) (a .first) (a .last) (a .births .now) (a .ear .now) (a .used .now) (a .initial) _
     (t .0 .0 ∷ []) (sym (at-check-shape .check-shape .ensures) ∙ ap earAnswer (t .1)) (at-if1 .if1 .taken) in
@@ -54,18 +56,20 @@ check-later-requires : tie.Need-check-later-requires
 check-later-requires c κs =
     let at-shape = c .before .before in
     let at-check-shape = at-shape .before .before in
-    let a = before-check-shape at-check-shape .args in
+    let start = before-check-shape at-check-shape in
+    let a = start .args in
     let t = at-shape .shape .given in
     let l = verdict-later (a .n) (a .links .now) (a .root) (a .first) (a .last) (a .births .now) (a .ear .now) (a .used .now) (a .initial) _
     (t .0 .0 ∷ []) (sym (at-check-shape .check-shape .ensures) ∙ ap earAnswer (t .1)) (c .if1 .left) in
-    (l .1, l .2)
+    (l .1, l .2, start .pre)
 
 returns-3 : tie.Need-returns-3
 returns-3 c =
     let at-if1 = c .before in
     let at-shape = at-if1 .before .before in
     let at-check-shape = at-shape .before .before in
-    let a = before-check-shape at-check-shape .args in
+    let start = before-check-shape at-check-shape in
+    let a = start .args in
     let t = at-shape .shape .given in
     let l = verdict-later (a .n) (a .links .now) (a .root) (a .first) (a .last) (a .births .now) (a .ear .now) (a .used .now) (a .initial) _
     (t .0 .0 ∷ []) (sym (at-check-shape .check-shape .ensures) ∙ ap earAnswer (t .1)) (at-if1 .if1 .left) in
