@@ -87,16 +87,12 @@ pub fn is_index(index: &[u16]) -> bool
     index.len() == INDEX_LENGTH
 }
 
-// The switch that half-link h leads to.
+// The switch that half-link h leads to: the two of a link differ in the last binary digit of their numbers.
 pub fn far_end(links: &[u16], h: usize) -> u16
     requires { ⌜ 2 * (h / 2) + 1 < length (now links) ⌝ }
     ensures { λ r. ⌜ r ≡ farEnd (tableOf (now (links .entry))) h ⌝ }
 {
-    let i = h / 2;
-    if h % 2 == 0 {
-        return links[2 * i + 1];
-    }
-    links[2 * i]
+    links[h ^ 1]
 }
 
 // One more half-link; a count stops at 8,192.
