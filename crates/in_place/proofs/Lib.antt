@@ -1,0 +1,4 @@
+pub mod Answers
+pub mod Loads
+pub mod Stores
+pub mod Queries

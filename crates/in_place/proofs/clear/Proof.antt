@@ -1,0 +1,78 @@
+use Rattle.in_place.proofs.Stores.{emptied, index-none}
+use borrow.Author.Needs.{needs}
+use Rattle.in_place.proofs.clear.Statement.{statement}
+use Rattle.in_place.proofs.clear.Tie as tie
+
+-- the way back from a place to the one before it that is cited
+abbrev before-index : tie.After-make-index → tie.Start
+before-index c = c .before .before .before .before .before .before .before .before .before .before .before
+
+slice-reshare-prefix-make-index : tie.Need-slice-reshare-prefix-make-index
+slice-reshare-prefix-make-index c = search needs
+
+slice-aggregate-make-index : tie.Need-slice-aggregate-make-index
+slice-aggregate-make-index c = search needs
+
+make-index-requires : tie.Need-make-index-requires
+make-index-requires c κs = search needs
+
+fill-requires : tie.Need-fill-requires
+fill-requires c κs = search needs
+
+clear-tables-requires : tie.Need-clear-tables-requires
+clear-tables-requires c κs = search needs
+
+empty-requires : tie.Need-empty-requires
+empty-requires c κs = search needs
+
+same-length : tie.Need-same-length
+same-length c = search needs
+
+same-length-2 : tie.Need-same-length-2
+same-length-2 c = search needs
+
+same-length-3 : tie.Need-same-length-3
+same-length-3 c = search needs
+
+same-length-4 : tie.Need-same-length-4
+same-length-4 c = search needs
+
+same-length-5 : tie.Need-same-length-5
+same-length-5 c = search needs
+
+same-length-6 : tie.Need-same-length-6
+same-length-6 c = search needs
+
+same-length-7 : tie.Need-same-length-7
+same-length-7 c = search needs
+
+same-length-8 : tie.Need-same-length-8
+same-length-8 c = search needs
+
+returns : tie.Need-returns
+returns c =
+    let at-tables = c .before .before .before .before .before .before .before .before .before .before .before .before .before in
+    let at-fill = at-tables .before .before .before .before .before .before .before .before .before in
+    let at-index = at-fill .before .before .before .before in
+    let start = before-index at-index in
+    (emptied (start .pre) (at-tables .clear-tables .ensures) (c .empty .ensures) (at-fill .fill .ensures), index-none (c .empty .ensures) (at-index .make-index .ensures) _)
+
+pub clear-spec : {M : Type 1} → statement M
+clear-spec =
+    tie.close
+    (tie.spec
+    slice-reshare-prefix-make-index
+    slice-aggregate-make-index
+    make-index-requires
+    fill-requires
+    clear-tables-requires
+    empty-requires
+    same-length
+    same-length-2
+    same-length-3
+    same-length-4
+    same-length-5
+    same-length-6
+    same-length-7
+    same-length-8
+    returns)

@@ -1,0 +1,114 @@
+use mathlib.Core.Path.{sym, ap, _∙_, refl}
+use Rattle.mondschein.specs.Outcome.{Outcome, settle}
+use Rattle.network.specs.Load.{networkOf, loadAnswer}
+use Rattle.in_place.specs.declared.Session.{Session}
+use Rattle.in_place.specs.declared.State.{State}
+use Rattle.in_place.specs.declared.LoadedIn.{LoadedIn}
+use Rattle.in_place.specs.InPlace.{sessionIn}
+use Rattle.in_place.proofs.Answers.{after-refused, after-given}
+use Rattle.in_place.proofs.Loads.{loaded-paired}
+use Rattle.in_place.proofs.Stores.{index-left, index-loaded}
+use borrow.Author.Needs.{needs}
+use Rattle.in_place.proofs.load_empty.Statement.{statement}
+use Rattle.in_place.proofs.load_empty.Tie as tie
+
+-- the way back from a place to the one before it that is cited
+abbrev before-check : tie.After-check-load → tie.Start
+before-check c = c .before .before .before .before .before .before .before .before .before .before
+
+-- the session that the lent arrays hold
+abbrev held : tie.Start → Session
+held c =
+    let a = c .args in
+    sessionIn (a .st) (a .table .now) (a .used .now) (a .births .now) (a .order .now) (a .tree1 .now) (a .tree2 .now) (a .tree3 .now)
+
+-- what a refusal leaves
+abbrev left : tie.Start → LoadedIn → Outcome Session
+left c r =
+    let a = c .args in
+    record { answer = loadAnswer (r .answer); after = sessionIn (r .state) (a .table .now) (a .used .now) (a .births .now) (a .order .now) (a .tree1 .now) (a .tree2 .now) (a .tree3 .now) }
+
+check-load-requires : tie.Need-check-load-requires
+check-load-requires c κs = search needs
+
+enum-known-answer : tie.Need-enum-known-answer
+enum-known-answer c = search needs
+
+load-refused-requires : tie.Need-load-refused-requires
+load-refused-requires c κs = search needs
+
+enum-known-answer-2 : tie.Need-enum-known-answer-2
+enum-known-answer-2 c = search needs
+
+store-network-requires : tie.Need-store-network-requires
+store-network-requires c κs =
+    let at-answer = c .before .before .before .before .before .before .before .before .before in
+    let at-check = at-answer .before .before in
+    let start = before-check at-check in
+    let a = start .args in
+    (loaded-paired (a .n) (a .links .now) (a .root) (a .first) (a .last) (sym (at-check .check-load .ensures) ∙ ap loadAnswer (at-answer .answer2 .given .1)), start .pre)
+
+returns : tie.Need-returns
+returns c =
+    let at-answer = c .before .before in
+    let at-check = at-answer .before .before in
+    let start = before-check at-check in
+    let a = start .args in (
+      ap (left start) (c .load-refused .ensures)
+          ∙ after-refused (held start) _ (sym (at-check .check-load .ensures) ∙ ap loadAnswer (at-answer .answer .given .1)),
+      index-left (a .st) (a .table .now) (a .index .now) _ (ap (λ (r : LoadedIn). r .state) (c .load-refused .ensures)),
+    )
+
+same-length : tie.Need-same-length
+same-length c = search needs
+
+same-length-2 : tie.Need-same-length-2
+same-length-2 c = search needs
+
+same-length-3 : tie.Need-same-length-3
+same-length-3 c = search needs
+
+same-length-4 : tie.Need-same-length-4
+same-length-4 c = search needs
+
+same-length-5 : tie.Need-same-length-5
+same-length-5 c = search needs
+
+same-length-6 : tie.Need-same-length-6
+same-length-6 c = search needs
+
+same-length-7 : tie.Need-same-length-7
+same-length-7 c = search needs
+
+same-length-8 : tie.Need-same-length-8
+same-length-8 c = search needs
+
+returns-2 : tie.Need-returns-2
+returns-2 c =
+    let at-store = c .before .before .before .before .before .before .before .before .before .before .before .before .before .before .before .before in
+    let at-answer = at-store .before .before .before .before .before .before .before .before .before .before in
+    let at-check = at-answer .before .before in
+    let start = before-check at-check in (
+      after-given (held start) _ (sym (at-check .check-load .ensures) ∙ ap loadAnswer (at-answer .answer2 .given .1)) (at-store .store-network .ensures .0),
+      index-loaded (at-store .store-network .ensures .1),
+    )
+
+pub load-empty-spec : {M : Type 1} → statement M
+load-empty-spec =
+    tie.close
+    (tie.spec
+    check-load-requires
+    enum-known-answer
+    load-refused-requires
+    enum-known-answer-2
+    store-network-requires
+    returns
+    same-length
+    same-length-2
+    same-length-3
+    same-length-4
+    same-length-5
+    same-length-6
+    same-length-7
+    same-length-8
+    returns-2)

@@ -1,0 +1,3 @@
+pub mod Session
+pub mod Queries
+pub mod InPlace

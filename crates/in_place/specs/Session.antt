@@ -1,0 +1,119 @@
+-- What a session holds after each call and what the call answers, for any session and any arguments: the step of the machine of
+-- document 01, with the session's fields for its state.
+use mathlib.Core.List.{List, [], _++_}
+use Prim.Native.Nat.{ℕ, _-_, _*_}
+use lib.Dec.{eqb}
+use lib.ListN.{length, replicate, take}
+use Rattle.mondschein.specs.Network.{Network, size}
+use Rattle.mondschein.specs.Judge.{given, refused, loading, verdict, closing}
+use Rattle.mondschein.specs.Outcome.{Outcome, settle}
+use Rattle.network.specs.Load.{networkOf}
+use Rattle.rows.specs.Rows.{marked}
+use Rattle.tables.specs.Tables.{Tables, tablesOf, afterEar, tree3Of}
+use Rattle.in_place.specs.declared.Stage.{Stage}
+use Rattle.in_place.specs.declared.Stage.the-variants.{Empty, Open, Closed}
+use Rattle.in_place.specs.declared.Session.{Session}
+
+-- the network as a session stores it: M, and the table at the start of an array
+pub record Stored : Type 0 where
+  pub n : ℕ
+  pub m : ℕ
+  pub root : ℕ
+  pub first : ℕ
+  pub last : ℕ
+  pub links : List ℕ
+
+-- a session by its parts: the stage, the network, what the accepted ears have left, and tree 3
+abbrev pub sessionOf : Stage → Stored → Tables → List ℕ → Session
+sessionOf stage k t tree3 =
+    record {
+      stage = stage;
+      n = k .n;
+      m = k .m;
+      root = k .root;
+      first = k .first;
+      last = k .last;
+      links = k .links;
+      used = t .used;
+      longs = t .longs;
+      births = t .births;
+      born = t .born;
+      order = t .order;
+      tree1 = t .tree1;
+      tree2 = t .tree2;
+      tree3 = tree3;
+    }
+
+abbrev pub zeros : ℕ → List ℕ
+zeros c = replicate c 0
+
+-- a list at the start of an array of c numbers
+abbrev pub padded : ℕ → List ℕ → List ℕ
+padded c l = l ++ zeros (c - length l)
+
+-- the network of a plan, and none
+abbrev pub storedOf : Network → Stored
+storedOf net = record { n = net .n; m = size net; root = net .root; first = net .first; last = net .last; links = padded 8192 (net .links) }
+
+abbrev pub noneStored : Stored
+noneStored = record { n = 0; m = 0; root = 0; first = 0; last = 0; links = zeros 8192 }
+
+-- nothing is born and no link used
+abbrev pub noTables : Tables
+noTables = tablesOf (zeros 4096) 0 (zeros 1024) 0 (zeros 1024) (zeros 1024) (zeros 1024)
+
+-- the fresh session
+abbrev pub emptySession : Session
+emptySession = sessionOf Empty noneStored noTables (zeros 1024)
+
+-- the session that has loaded a network and accepted no ear
+unfoldable pub openedWith : Network → Session
+openedWith net = sessionOf Open (storedOf net) noTables (zeros 1024)
+
+-- the network that is stored
+abbrev pub networkAs : Stored → Network
+networkAs k = networkOf (k .n) (take (2 * k .m) (k .links)) (k .root) (k .first) (k .last)
+
+-- the parts of a session: the network, and what its accepted ears have left
+abbrev pub storedIn : Session → Stored
+storedIn s = record { n = s .n; m = s .m; root = s .root; first = s .first; last = s .last; links = s .links }
+
+abbrev pub networkIn : Session → Network
+networkIn s = networkAs (storedIn s)
+
+abbrev pub tablesIn : Session → Tables
+tablesIn s = tablesOf (s .used) (s .longs) (s .births) (s .born) (s .order) (s .tree1) (s .tree2)
+
+-- the session with other tables
+abbrev pub withTables : Session → Tables → Session
+withTables s t = sessionOf (s .stage) (storedIn s) t (s .tree3)
+
+-- the session closed, with tree 3
+abbrev pub closedWith : Session → List ℕ → Session
+closedWith s tree3 = sessionOf Closed (storedIn s) (tablesIn s) tree3
+
+-- an answer for each stage
+unfoldable pub byStage : {A : Type 0} → Stage → A → A → A → A
+byStage Empty a b c = a
+byStage Open a b c = b
+byStage Closed a b c = c
+
+-- load: 20 on a session that is not empty, then checks 1 to 6
+unfoldable pub loadedBy : Session → Network → Outcome Session
+loadedBy s net = settle s (openedWith net) (byStage (s .stage) (loading net) (refused 20 0) (refused 20 0))
+
+-- ear: 19 on an empty session, 22 on a closed one, then checks 7 to 16; it is the first where nothing is born
+unfoldable pub offeredBy : Session → List ℕ → Outcome Session
+offeredBy s e =
+    settle s (withTables s (afterEar (networkIn s) e (tablesIn s)))
+    (byStage (s .stage) (refused 19 0) (verdict (networkIn s) (marked (s .births)) (marked (s .used)) (eqb (s .born) 0) e) (refused 22 0))
+
+-- close: 19 on an empty session, 22 on a closed one, then 23
+unfoldable pub closedBy : Session → Outcome Session
+closedBy s =
+    settle s (closedWith s (tree3Of (networkIn s) (s .births) (s .tree3)))
+    (byStage (s .stage) (refused 19 0) (closing (networkIn s) (marked (s .used))) (refused 22 0))
+
+-- clear
+unfoldable pub clearedBy : Session → Outcome Session
+clearedBy s = settle s emptySession (given [])

@@ -1,0 +1,543 @@
+// What a session is, and its calls in place: over what it holds beside its arrays, by value, and the arrays, lent.
+// An index of the links may be lent beside them; a slice of another length than an index means that there is none.
+use judge::Ear;
+use network::Load;
+use network::MAX_LINKS;
+use network::MAX_SWITCHES;
+use tables::Close;
+use walks::Parent;
+use walks::Walk;
+ghost use mathlib.Core.Path.{_≡_};
+ghost use Prim.Native.Nat.{_≤_};
+ghost use lib.ListN.{length};
+ghost use Rattle.mondschein.specs.Judge.{wrongSize, loading};
+ghost use Rattle.mondschein.specs.Outcome.{settle};
+ghost use Rattle.network.specs.declared.Load.the-variants as Load·;
+ghost use Rattle.network.specs.Load.{networkOf, loadAnswer};
+ghost use Rattle.shape.specs.declared.Ear.the-variants as Ear·;
+ghost use Rattle.tables.specs.declared.Close.the-variants as Close·;
+ghost use Rattle.in_place.specs.Session.{emptySession, zeros, padded, openedWith};
+ghost use Rattle.in_place.specs.InPlace.{sessionIn, emptyState, closedState, SizedAs, Paired, IndexedIn, KeepsIndex, LoadsIn, OffersOpen, OffersIn, ClosesOpen, ClosesIn, ParentIn, WalksIn};
+
+pub enum Stage {
+    Empty,
+    Open,
+    Closed,
+}
+
+// The network (its table flat, as lent), used links (1), the count of long ears, births by long ear (0 unborn), the order with its
+// count `born`, and the three parent tables.
+pub struct Session {
+    pub stage: Stage,
+    pub n: u16,
+    pub m: u16,
+    pub root: u16,
+    pub first: u16,
+    pub last: u16,
+    pub links: [u16; 2 * (MAX_LINKS as usize)],
+    pub used: [u8; MAX_LINKS as usize],
+    pub longs: u16,
+    pub births: [u16; MAX_SWITCHES as usize],
+    pub born: u16,
+    pub order: [u16; MAX_SWITCHES as usize],
+    pub tree1: [u16; MAX_SWITCHES as usize],
+    pub tree2: [u16; MAX_SWITCHES as usize],
+    pub tree3: [u16; MAX_SWITCHES as usize],
+}
+
+impl Session {
+    pub const MIN_SWITCHES: u16 = 4;
+
+    pub const MAX_SWITCHES: u16 = network::MAX_SWITCHES;
+
+    pub const MIN_LINKS: u16 = 6;
+
+    pub const MAX_LINKS: u16 = network::MAX_LINKS;
+
+    // The fresh session.
+    pub fn empty() -> Self
+        ensures { λ r. ⌜ r ≡ emptySession ⌝ }
+    {
+        Session {
+            stage: Stage::Empty,
+            n: 0,
+            m: 0,
+            root: 0,
+            first: 0,
+            last: 0,
+            links: [0u16; 2 * (MAX_LINKS as usize)],
+            used: [0u8; MAX_LINKS as usize],
+            longs: 0,
+            births: [0u16; MAX_SWITCHES as usize],
+            born: 0,
+            order: [0u16; MAX_SWITCHES as usize],
+            tree1: [0u16; MAX_SWITCHES as usize],
+            tree2: [0u16; MAX_SWITCHES as usize],
+            tree3: [0u16; MAX_SWITCHES as usize],
+        }
+    }
+}
+
+// What a session holds beside its arrays.
+pub struct State {
+    pub stage: Stage,
+    pub n: u16,
+    pub m: u16,
+    pub root: u16,
+    pub first: u16,
+    pub last: u16,
+    pub longs: u16,
+    pub born: u16,
+}
+
+impl State {
+    // The state of the fresh session.
+    pub fn empty() -> Self
+        ensures { λ r. ⌜ r ≡ emptyState ⌝ }
+    {
+        State {
+            stage: Stage::Empty,
+            n: 0,
+            m: 0,
+            root: 0,
+            first: 0,
+            last: 0,
+            longs: 0,
+            born: 0,
+        }
+    }
+}
+
+// What load answers, and the state after it.
+pub struct LoadedIn {
+    pub answer: Load,
+    pub state: State,
+}
+
+// What an ear is answered, and the state after it.
+pub struct OfferedIn {
+    pub answer: Ear,
+    pub state: State,
+}
+
+// What close answers, and the state after it.
+pub struct ClosedIn {
+    pub answer: Close,
+    pub state: State,
+}
+
+// No link is used, no switch born or in a tree.
+fn clear_tables(
+    used: &mut [u8],
+    births: &mut [u16],
+    order: &mut [u16],
+    tree1: &mut [u16],
+    tree2: &mut [u16],
+    tree3: &mut [u16],
+)
+    ensures { λ _. ⌜ (now (used .exit) ≡ zeros (length (now (used .entry)))) × (now (births .exit) ≡ zeros (length (now (births .entry)))) × (now (order .exit) ≡ zeros (length (now (order .entry)))) × (now (tree1 .exit) ≡ zeros (length (now (tree1 .entry)))) × (now (tree2 .exit) ≡ zeros (length (now (tree2 .entry)))) × (now (tree3 .exit) ≡ zeros (length (now (tree3 .entry)))) ⌝ }
+{
+    rows::unmark(used);
+    rows::fill(births, 0);
+    rows::fill(order, 0);
+    rows::fill(tree1, 0);
+    rows::fill(tree2, 0);
+    rows::fill(tree3, 0);
+}
+
+// Clears the session, and the index with it: always succeeds.
+pub fn clear(
+    links: &mut [u16],
+    used: &mut [u8],
+    births: &mut [u16],
+    order: &mut [u16],
+    tree1: &mut [u16],
+    tree2: &mut [u16],
+    tree3: &mut [u16],
+    index: &mut [u16],
+) -> State
+    requires { ⌜ SizedAs (now links) (now used) (now births) (now order) (now tree1) (now tree2) (now tree3) ⌝ }
+    ensures { λ r. ⌜ (sessionIn r (now (links .exit)) (now (used .exit)) (now (births .exit)) (now (order .exit)) (now (tree1 .exit)) (now (tree2 .exit)) (now (tree3 .exit)) ≡ emptySession) × IndexedIn r (now (links .exit)) (now (index .exit)) ⌝ }
+{
+    network::make_index(&links[..0], index);
+    rows::fill(links, 0);
+    clear_tables(used, births, order, tree1, tree2, tree3);
+    State::empty()
+}
+
+// Check 1: N or M outside its limits, or half a link.
+fn wrong_size(n: u16, links: &[u16]) -> bool
+    ensures { λ r. ⌜ r ≡ wrongSize (networkOf n (now (links .entry)) 0 0 0) 0 ⌝ }
+{
+    let m = links.len() / 2;
+    if n < Session::MIN_SWITCHES {
+        return true;
+    }
+    if Session::MAX_SWITCHES < n {
+        return true;
+    }
+    if m < (Session::MIN_LINKS as usize) {
+        return true;
+    }
+    if (Session::MAX_LINKS as usize) < m {
+        return true;
+    }
+    links.len() % 2 != 0
+}
+
+// Checks 1 to 6, with an index of its own: what they answer, N and M or a refusal.
+fn check_load(n: u16, links: &[u16], root: u16, first: u16, last: u16) -> Load
+    ensures { λ r. ⌜ loadAnswer r ≡ loading (networkOf n (now (links .entry)) root first last) ⌝ }
+{
+    if wrong_size(n, links) {
+        return Load::Refused(1, 0);
+    }
+    let mut index = [0u16; network::INDEX_LENGTH];
+    network::make_index(links, &mut index);
+    network::check_table(n, links, &index, root, first, last)
+}
+
+// The numbers at the start of a row, and zeros after them.
+fn pad(row: &mut [u16], numbers: &[u16])
+    requires { ⌜ length (now numbers) ≤ length (now row) ⌝ }
+    ensures { λ _. ⌜ now (row .exit) ≡ padded (length (now (row .entry))) (now (numbers .entry)) ⌝ }
+{
+    rows::fill(row, 0);
+    let mut i = 0;
+    while i < numbers.len() {
+        row[i] = numbers[i];
+        i += 1;
+    }
+}
+
+// Stores a network, with its index: nothing is born, and no link used.
+fn store_network(
+    n: u16,
+    links: &[u16],
+    root: u16,
+    first: u16,
+    last: u16,
+    table: &mut [u16],
+    used: &mut [u8],
+    births: &mut [u16],
+    order: &mut [u16],
+    tree1: &mut [u16],
+    tree2: &mut [u16],
+    tree3: &mut [u16],
+    index: &mut [u16],
+) -> State
+    requires { ⌜ Paired (now links) × SizedAs (now table) (now used) (now births) (now order) (now tree1) (now tree2) (now tree3) ⌝ }
+    ensures { λ r. ⌜ (sessionIn r (now (table .exit)) (now (used .exit)) (now (births .exit)) (now (order .exit)) (now (tree1 .exit)) (now (tree2 .exit)) (now (tree3 .exit)) ≡ openedWith (networkOf n (now (links .entry)) root first last)) × IndexedIn r (now (table .exit)) (now (index .exit)) ⌝ }
+{
+    network::make_index(links, index);
+    pad(table, links);
+    clear_tables(used, births, order, tree1, tree2, tree3);
+    let stage = Stage::Open;
+    State {
+        stage,
+        n,
+        m: (links.len() / 2) as u16,
+        root,
+        first,
+        last,
+        longs: 0,
+        born: 0,
+    }
+}
+
+fn load_refused(number: u8, place: u16, state: State) -> LoadedIn
+    ensures { λ r. ⌜ r ≡ record { answer = Load·.Refused number place; state = state } ⌝ }
+{
+    let answer = Load::Refused(number, place);
+    LoadedIn { answer, state }
+}
+
+// Checks 1 to 6, and the network stored where they are clear.
+fn load_empty(
+    st: State,
+    n: u16,
+    links: &[u16],
+    root: u16,
+    first: u16,
+    last: u16,
+    table: &mut [u16],
+    used: &mut [u8],
+    births: &mut [u16],
+    order: &mut [u16],
+    tree1: &mut [u16],
+    tree2: &mut [u16],
+    tree3: &mut [u16],
+    index: &mut [u16],
+) -> LoadedIn
+    requires { ⌜ SizedAs (now table) (now used) (now births) (now order) (now tree1) (now tree2) (now tree3) ⌝ }
+    ensures { λ r. ⌜ record { answer = loadAnswer (r .answer); after = sessionIn (r .state) (now (table .exit)) (now (used .exit)) (now (births .exit)) (now (order .exit)) (now (tree1 .exit)) (now (tree2 .exit)) (now (tree3 .exit)) } ≡ settle (sessionIn st (now (table .entry)) (now (used .entry)) (now (births .entry)) (now (order .entry)) (now (tree1 .entry)) (now (tree2 .entry)) (now (tree3 .entry))) (openedWith (networkOf n (now (links .entry)) root first last)) (loading (networkOf n (now (links .entry)) root first last)) ⌝ }
+    ensures { λ r. ⌜ KeepsIndex st (now (table .entry)) (now (index .entry)) (loadAnswer (r .answer)) (r .state) (now (table .exit)) (now (index .exit)) ⌝ }
+{
+    let answer = check_load(n, links, root, first, last);
+    match answer {
+        Load::Refused(number, place) => load_refused(number, place, st),
+        Load::Loaded(switches, size) => {
+            let state = store_network(
+                n,
+                links,
+                root,
+                first,
+                last,
+                table,
+                used,
+                births,
+                order,
+                tree1,
+                tree2,
+                tree3,
+                index,
+            );
+            LoadedIn { answer, state }
+        }
+    }
+}
+
+// Loads a network into an empty session, with its index: 20 on any other, then checks 1 to 6.
+pub fn load(
+    st: State,
+    n: u16,
+    links: &[u16],
+    root: u16,
+    first: u16,
+    last: u16,
+    table: &mut [u16],
+    used: &mut [u8],
+    births: &mut [u16],
+    order: &mut [u16],
+    tree1: &mut [u16],
+    tree2: &mut [u16],
+    tree3: &mut [u16],
+    index: &mut [u16],
+) -> LoadedIn
+    requires { ⌜ SizedAs (now table) (now used) (now births) (now order) (now tree1) (now tree2) (now tree3) ⌝ }
+    ensures { λ r. ⌜ LoadsIn (sessionIn st (now (table .entry)) (now (used .entry)) (now (births .entry)) (now (order .entry)) (now (tree1 .entry)) (now (tree2 .entry)) (now (tree3 .entry))) (networkOf n (now (links .entry)) root first last) r (sessionIn (r .state) (now (table .exit)) (now (used .exit)) (now (births .exit)) (now (order .exit)) (now (tree1 .exit)) (now (tree2 .exit)) (now (tree3 .exit))) ⌝ }
+    ensures { λ r. ⌜ KeepsIndex st (now (table .entry)) (now (index .entry)) (loadAnswer (r .answer)) (r .state) (now (table .exit)) (now (index .exit)) ⌝ }
+{
+    let stage = st.stage;
+    match stage {
+        Stage::Empty => load_empty(
+            st,
+            n,
+            links,
+            root,
+            first,
+            last,
+            table,
+            used,
+            births,
+            order,
+            tree1,
+            tree2,
+            tree3,
+            index,
+        ),
+        Stage::Open => load_refused(20, 0, st),
+        Stage::Closed => load_refused(20, 0, st),
+    }
+}
+
+fn ear_refused(number: u8, place: u16, state: State) -> OfferedIn
+    ensures { λ r. ⌜ r ≡ record { answer = Ear·.Refused number place; state = state } ⌝ }
+{
+    let answer = Ear::Refused(number, place);
+    OfferedIn { answer, state }
+}
+
+// Checks 7 to 16, and the ear written into the tables where they are clear.
+fn ear_open(
+    st: State,
+    links: &[u16],
+    index: &[u16],
+    used: &mut [u8],
+    births: &mut [u16],
+    order: &mut [u16],
+    tree1: &mut [u16],
+    tree2: &mut [u16],
+    ear: &[u16],
+) -> OfferedIn
+    requires { ⌜ (length (now order) ≡ 1024) × IndexedIn st (now links) (now index) ⌝ }
+    ensures { λ r. ⌜ OffersOpen st (now (links .entry)) (now (used .entry)) (now (births .entry)) (now (order .entry)) (now (tree1 .entry)) (now (tree2 .entry)) (now (ear .entry)) r (now (used .exit)) (now (births .exit)) (now (order .exit)) (now (tree1 .exit)) (now (tree2 .exit)) ⌝ }
+{
+    let numbers = rows::least(2 * (st.m as usize), links.len());
+    let table = &links[..numbers];
+    let answer = judge::judge(
+        st.n,
+        table,
+        index,
+        st.root,
+        st.first,
+        st.last,
+        births,
+        used,
+        st.born == 0,
+        ear,
+    );
+    match answer {
+        Ear::Refused(number, place) => ear_refused(number, place, st),
+        Ear::New(count) => {
+            let counts = tables::accept(
+                table,
+                index,
+                ear,
+                st.longs,
+                st.born,
+                used,
+                births,
+                order,
+                tree1,
+                tree2,
+            );
+            let mut state = st;
+            state.longs = counts.longs;
+            state.born = counts.born;
+            OfferedIn { answer, state }
+        }
+    }
+}
+
+// Offers an ear to an open session: 19 on an empty one, 22 on a closed one, then checks 7 to 16.
+pub fn ear(
+    st: State,
+    links: &[u16],
+    index: &[u16],
+    used: &mut [u8],
+    births: &mut [u16],
+    order: &mut [u16],
+    tree1: &mut [u16],
+    tree2: &mut [u16],
+    ear: &[u16],
+) -> OfferedIn
+    requires { ⌜ (length (now order) ≡ 1024) × IndexedIn st (now links) (now index) ⌝ }
+    ensures { λ r. ⌜ OffersIn st (now (links .entry)) (now (used .entry)) (now (births .entry)) (now (order .entry)) (now (tree1 .entry)) (now (tree2 .entry)) (now (ear .entry)) r (now (used .exit)) (now (births .exit)) (now (order .exit)) (now (tree1 .exit)) (now (tree2 .exit)) ⌝ }
+{
+    let stage = st.stage;
+    match stage {
+        Stage::Empty => ear_refused(19, 0, st),
+        Stage::Open => ear_open(st, links, index, used, births, order, tree1, tree2, ear),
+        Stage::Closed => ear_refused(22, 0, st),
+    }
+}
+
+fn close_refused(number: u8, place: u16, state: State) -> ClosedIn
+    ensures { λ r. ⌜ r ≡ record { answer = Close·.Refused number place; state = state } ⌝ }
+{
+    let answer = Close::Refused(number, place);
+    ClosedIn { answer, state }
+}
+
+// The session is closed.
+fn closed(st: State) -> ClosedIn
+    ensures { λ r. ⌜ r ≡ record { answer = Close·.Closed; state = closedState st } ⌝ }
+{
+    let answer = Close::Closed;
+    let stage = Stage::Closed;
+    let state = State {
+        stage,
+        n: st.n,
+        m: st.m,
+        root: st.root,
+        first: st.first,
+        last: st.last,
+        longs: st.longs,
+        born: st.born,
+    };
+    ClosedIn { answer, state }
+}
+
+// Check 23, and tree 3 where it is clear.
+fn close_open(st: State, links: &[u16], used: &[u8], births: &[u16], tree3: &mut [u16]) -> ClosedIn
+    requires { ⌜ length (now links) ≡ 8192 ⌝ }
+    ensures { λ r. ⌜ ClosesOpen st (now (links .entry)) (now (used .entry)) (now (births .entry)) (now (tree3 .entry)) r (now (tree3 .exit)) ⌝ }
+{
+    let numbers = rows::least(2 * (st.m as usize), links.len());
+    let table = &links[..numbers];
+    let answer = tables::check_used(table, used);
+    match answer {
+        Close::Refused(number, place) => close_refused(number, place, st),
+        Close::Closed => {
+            tables::set_tree3(tree3, st.n, table, st.root, st.last, births);
+            closed(st)
+        }
+    }
+}
+
+// Closes an open session: 19 on an empty one, 22 on a closed one, then check 23.
+pub fn close(st: State, links: &[u16], used: &[u8], births: &[u16], tree3: &mut [u16]) -> ClosedIn
+    requires { ⌜ length (now links) ≡ 8192 ⌝ }
+    ensures { λ r. ⌜ ClosesIn st (now (links .entry)) (now (used .entry)) (now (births .entry)) (now (tree3 .entry)) r (now (tree3 .exit)) ⌝ }
+{
+    let stage = st.stage;
+    match stage {
+        Stage::Empty => close_refused(19, 0, st),
+        Stage::Open => close_open(st, links, used, births, tree3),
+        Stage::Closed => close_refused(22, 0, st),
+    }
+}
+
+// The entry of a switch in the table of a tree, 1 to 3: 19 on an empty session, 21 on an open one, then check 17.
+pub fn parent(
+    st: State,
+    tree1: &[u16],
+    tree2: &[u16],
+    tree3: &[u16],
+    switch: u16,
+    tree: u16,
+) -> Parent
+    ensures { λ r. ⌜ ParentIn st (now (tree1 .entry)) (now (tree2 .entry)) (now (tree3 .entry)) switch tree r ⌝ }
+{
+    let stage = st.stage;
+    let Stage::Closed = stage else {
+        return match stage {
+            Stage::Empty => Parent::Refused(19, 0),
+            Stage::Open => Parent::Refused(21, 0),
+            Stage::Closed => Parent::Refused(21, 0),
+        };
+    };
+    if walks::unknown(st.n, switch, tree) {
+        return Parent::Refused(17, 0);
+    }
+    if tree == 1 {
+        return Parent::Entry(rows::entry(tree1, switch));
+    }
+    if tree == 2 {
+        return Parent::Entry(rows::entry(tree2, switch));
+    }
+    Parent::Entry(rows::entry(tree3, switch))
+}
+
+// The walk of a switch in a tree, 1 to 3, at the start of the slice: 19 on an empty session, 21 on an open one, then checks 17 and 18.
+pub fn walk(
+    st: State,
+    tree1: &[u16],
+    tree2: &[u16],
+    tree3: &[u16],
+    switch: u16,
+    tree: u16,
+    out: &mut [u16],
+) -> Walk
+    ensures { λ r. ⌜ WalksIn st (now (tree1 .entry)) (now (tree2 .entry)) (now (tree3 .entry)) switch tree (now (out .entry)) r (now (out .exit)) ⌝ }
+{
+    let stage = st.stage;
+    let Stage::Closed = stage else {
+        return match stage {
+            Stage::Empty => Walk::Refused(19, 0),
+            Stage::Open => Walk::Refused(21, 0),
+            Stage::Closed => Walk::Refused(21, 0),
+        };
+    };
+    if walks::unknown(st.n, switch, tree) {
+        return Walk::Refused(17, 0);
+    }
+    if tree == 1 {
+        return walks::walk_by(tree1, st.n, st.root, switch, out);
+    }
+    if tree == 2 {
+        return walks::walk_by(tree2, st.n, st.root, switch, out);
+    }
+    walks::walk_by(tree3, st.n, st.root, switch, out)
+}
