@@ -11,7 +11,7 @@ use lib.Dec.{ltb}
 use lib.ListN.{length, set, take, drop, length-set, length-take}
 use lib.Seq.{take-at, take-suc-set}
 use borrow.Author.Tests.{lt-ltb, le-ltb}
-use Rattle.session.specs.declared.Session.{Session}
+use Rattle.in_place.specs.declared.Session.{Session}
 use Rattle.lines.specs.Writing.{Form, net, link, opening, ear, closing, walk, clearing}
 use Rattle.lines.specs.Reading.{reading}
 use Rattle.lines.specs.declared.Form.{Form as Code·Form}

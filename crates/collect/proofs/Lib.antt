@@ -1,3 +1,4 @@
 pub mod Threeways
 pub mod Collecting
+pub mod Keeping
 pub mod LineEnds

@@ -1,8 +1,8 @@
--- The transcript of threeways: a line that is too long is the same to it as its first 6,145 bytes.
+-- The transcript of threeways: a line that is too long is the same to it as its first 6,145 bytes, and is the last that is read.
 -- So the bytes of an input, one after another, print its transcript.
 use mathlib.Core.Path.{_≡_, sym, ap, _∙_}
 use mathlib.Core.Logic.{⊎-elim}
-use mathlib.Core.Bool.{Bool, cond}
+use mathlib.Core.Bool.{Bool, true, cond}
 use mathlib.Core.Option.{none}
 use mathlib.Core.List.{List}
 use Prim.Native.Nat.{ℕ, _≤_, _<_}
@@ -27,5 +27,9 @@ cut-turn d k l =
     (λ (g : length l ≤ 6144). ap (λ (s : List ℕ). turn d k s) (take-all 6145 l (omega arith)))
     (less? 6144 (length l))
 
+stop-turn : (d : Dialogue) (k : ℕ) (l : List ℕ) → 6144 < length l → turn d k l .stops ≡ true
+unfolding turn reading respond
+stop-turn d k l g = ap (λ (b : Bool). respond d k (cond b none (anyForm l)) .stops) (lt-ltb 6144 (length l) g)
+
 pub prints-threeways : PrintsTranscript turn
-prints-threeways = prints-transcript turn cut-turn
+prints-threeways = prints-transcript turn cut-turn stop-turn

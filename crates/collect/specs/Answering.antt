@@ -5,8 +5,8 @@ use mathlib.Core.Bool.{Bool, false}
 use mathlib.Core.List.{List, _++_}
 use mathlib.Core.Option.{none, some}
 use Prim.Native.Nat.{ℕ, pred, _*_}
-use lib.ListN.{take}
-use Rattle.session.specs.declared.Session.{Session}
+use lib.ListN.{take, drop}
+use Rattle.in_place.specs.declared.Session.{Session}
 use Rattle.lines.specs.declared.Form.{Form as Code·Form}
 use Rattle.lines.specs.declared.Form.the-variants as Code
 use Rattle.lines.specs.Writing.{Form, net, link, opening, ear, closing, walk, clearing}
@@ -18,7 +18,7 @@ use Rattle.collect.specs.declared.Request.the-variants.{Nothing, Walk, C
 use Rattle.collect.specs.declared.Answered.{Answered}
 use Rattle.collect.specs.declared.Reader.{Reader as Code·Reader}
 use Rattle.collect.specs.declared.Ending.{Ending}
-use Rattle.transcript.specs.Transcript.{Turn, Reader, ended}
+use Rattle.transcript.specs.Transcript.{Turn, Reader, over, ended}
 use Rattle.collect.specs.Dialogue.{Dialogue, respond, turn}
 
 -- what is collected, with its links in a slice, and a session
@@ -52,6 +52,16 @@ pub record Effect : Type 0 where
 abbrev pub effectIn : Answered → List ℕ → Effect
 effectIn r out = record { kept = r .kept; request = r .request; printed = take (r .written) out; stops = r .stops }
 
+-- the count of the bytes of a line's own reply: a line that asks something of the session has its reply from there
+abbrev pub ownCount : Request → ℕ → ℕ
+ownCount Nothing written = written
+ownCount (Walk switch tree) written = 0
+ownCount (Call c) written = 0
+
+-- a slice holds what it held, but for the first k
+abbrev pub Keeps : ℕ → List ℕ → List ℕ → Type 0
+Keeps k held holds = drop k holds ≡ drop k held
+
 -- the same as a turn of the dialogue, of line number k with a session, and with the links and the numbers of an ear in slices
 abbrev pub turnOf : Session → ℕ → List ℕ → List ℕ → Effect → Turn Dialogue
 turnOf s k numbers links t = requested (t .request) numbers k (record { after = dialogueIn (t .kept) s links; printed = t .printed; stops = t .stops })
@@ -79,6 +89,10 @@ Answers d links k bytes r numbers links′ out = (s : Session) → turnOf s k nu
 abbrev pub readerIn : Code·Reader → Session → List ℕ → List ℕ → List ℕ → Reader Dialogue
 readerIn r s links line output = record { state = dialogueIn (r .kept) s links; number = r .number; line = take (r .held) line; output = output; stopped = r .stopped }
 
+-- whether no more is read, whatever else is known
+abbrev pub Over : Code·Reader → Bool → Type 0
+Over r b = (s : Session) (links line output : List ℕ) → b ≡ over (readerIn r s links line output)
+
 -- what is known once a line has what it asks of the session; a line that asks for nothing has its reply
 abbrev pub served : Request → List ℕ → List ℕ → Reader Dialogue → Reader Dialogue
 served q numbers own r =
@@ -88,8 +102,8 @@ served q numbers own r =
 -- the line ends, but for what it asks of the session, whatever the session and whatever was printed before
 abbrev pub Ends : Code·Reader → List ℕ → List ℕ → Ending → List ℕ → List ℕ → List ℕ → Type 0
 Ends r links line e numbers links′ out =
-    (s : Session) (printed : List ℕ) → served (e .request) numbers (take (e .reader .written) out) (readerIn (e .reader) s links′ line printed) ≡ ended turn (readerIn r s links line printed)
+    (s : Session) (printed : List ℕ) → served (e .request) numbers (take (e .written) out) (readerIn (e .reader) s links′ line printed) ≡ ended turn (readerIn r s links line printed)
 
 -- before the first byte
 abbrev pub startReader : Code·Reader
-startReader = record { kept = freshKept; number = 1; held = 0; written = 0; stopped = false }
+startReader = record { kept = freshKept; number = 1; held = 0; stopped = false }

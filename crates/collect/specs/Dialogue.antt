@@ -9,9 +9,9 @@ use lib.ListN.{length, take, replicate}
 use Rattle.mondschein.specs.Network.{at}
 use Rattle.mondschein.specs.Judge.{Answer, given, refused, limits}
 use Rattle.network.specs.Load.{networkOf}
-use Rattle.session.specs.declared.Session.{Session}
-use Rattle.session.specs.Session.{emptySession, loadedBy, offeredBy, closedBy}
-use Rattle.session.specs.Program.{walkedBy}
+use Rattle.in_place.specs.declared.Session.{Session}
+use Rattle.in_place.specs.Session.{emptySession, loadedBy, offeredBy, closedBy}
+use Rattle.in_place.specs.Queries.{walkedBy}
 use Rattle.lines.specs.Writing.{Form, net, link, opening, ear, closing, walk, clearing}
 use Rattle.lines.specs.Reading.{reading}
 use Rattle.replies.specs.Replies.{Reply, opened, new, closed, walked, cleared, unread, reply}

@@ -9,7 +9,7 @@ ghost use lib.ListN.{length};
 ghost use Rattle.lines.specs.declared.Form.the-variants as Form·;
 ghost use Rattle.replies.specs.Replies.{unread, reply};
 ghost use Rattle.collect.specs.declared.Request.the-variants as Request·;
-ghost use Rattle.collect.specs.Answering.{freshKept, effectIn, Responds, Answers, Ends, startReader};
+ghost use Rattle.collect.specs.Answering.{freshKept, effectIn, Responds, Answers, ownCount, Keeps, Over, Ends, startReader};
 
 // What is collected: the numbers of the last net line, and the count of links.
 pub struct Kept {
@@ -63,6 +63,7 @@ struct Answered {
 fn unread(d: Kept, number: u16, out: &mut [u8]) -> Answered
     requires { ⌜ 8192 ≤ length (now out) ⌝ }
     ensures { λ r. ⌜ effectIn r (now (out .exit)) ≡ record { kept = d; request = Request·.Nothing; printed = reply (unread number); stops = true } ⌝ }
+    ensures { λ r. ⌜ Keeps (ownCount (r .request) (r .written)) (now (out .entry)) (now (out .exit)) ⌝ }
 {
     let written = replies::write_unread(out, number);
     let request = Request::Nothing;
@@ -102,6 +103,7 @@ fn collect_net(d: Kept, n: u16, root: u16, first: u16, last: u16) -> Answered
 fn collect_link(d: Kept, number: u16, a: u16, b: u16, links: &mut [u16], out: &mut [u8]) -> Answered
     requires { ⌜ (length (now links) ≡ 8192) × (8192 ≤ length (now out)) ⌝ }
     ensures { λ r. ⌜ Responds d (now (links .entry)) number (Form·.Link a b) r (now (links .exit)) (now (out .exit)) ⌝ }
+    ensures { λ r. ⌜ Keeps (ownCount (r .request) (r .written)) (now (out .entry)) (now (out .exit)) ⌝ }
 {
     let count = d.count;
     if Session::MAX_LINKS <= count {
@@ -119,6 +121,7 @@ fn collect_link(d: Kept, number: u16, a: u16, b: u16, links: &mut [u16], out: &m
 fn respond(d: Kept, number: u16, form: Form, links: &mut [u16], out: &mut [u8]) -> Answered
     requires { ⌜ (length (now links) ≡ 8192) × (8192 ≤ length (now out)) ⌝ }
     ensures { λ r. ⌜ Responds d (now (links .entry)) number form r (now (links .exit)) (now (out .exit)) ⌝ }
+    ensures { λ r. ⌜ Keeps (ownCount (r .request) (r .written)) (now (out .entry)) (now (out .exit)) ⌝ }
 {
     match form {
         Form::Net(n, root, first, last) => collect_net(d, n, root, first, last),
@@ -143,6 +146,8 @@ fn answer(
 ) -> Answered
     requires { ⌜ (3072 ≤ length (now numbers)) × (length (now links) ≡ 8192) × (8192 ≤ length (now out)) ⌝ }
     ensures { λ r. ⌜ Answers d (now (links .entry)) number (now (bytes .entry)) r (now (numbers .exit)) (now (links .exit)) (now (out .exit)) ⌝ }
+    ensures { λ r. ⌜ Keeps (ownCount (r .request) (r .written)) (now (out .entry)) (now (out .exit)) ⌝ }
+    ensures { λ r. ⌜ Keeps 3072 (now (numbers .entry)) (now (numbers .exit)) ⌝ }
 {
     let line = lines::read_line(number, bytes, numbers);
     let form = line.form;
@@ -150,12 +155,11 @@ fn answer(
 }
 
 // What is known between two bytes of an input: what is collected, the number of the line that comes, the count of its bytes so far,
-// the count of the bytes of the last reply, and whether no more is read.
+// and whether a line stopped the dialogue.
 pub struct Reader {
     pub kept: Kept,
     pub number: u32,
     pub held: usize,
-    pub written: usize,
     pub stopped: bool,
 }
 
@@ -169,26 +173,38 @@ impl Reader {
             kept,
             number: 1,
             held: 0,
-            written: 0,
             stopped: false,
         }
     }
 }
 
-// What is known after a line, and what the line asks of the session.
+// Whether no more is read: a line stopped the dialogue, or 65,535 lines were read.
+pub fn over(r: Reader) -> bool
+    ensures { λ b. ⌜ Over r b ⌝ }
+{
+    if r.stopped {
+        return true;
+    }
+    65535 < r.number
+}
+
+// What is known after a line, what the line asks of the session, and the count of the bytes of its own reply.
 pub struct Ending {
     pub reader: Reader,
     pub request: Request,
+    pub written: usize,
 }
 
 // No more is read: nothing changes, and there is no reply.
-fn quiet(r: Reader) -> Ending
-    ensures { λ e. ⌜ e ≡ record { reader = record { kept = r .kept; number = r .number; held = r .held; written = 0; stopped = r .stopped }; request = Request·.Nothing } ⌝ }
+fn quiet(reader: Reader) -> Ending
+    ensures { λ e. ⌜ e ≡ record { reader = reader; request = Request·.Nothing; written = 0 } ⌝ }
 {
-    let mut reader = r;
-    reader.written = 0;
     let request = Request::Nothing;
-    Ending { reader, request }
+    Ending {
+        reader,
+        request,
+        written: 0,
+    }
 }
 
 // The line that is held ends: what is known after it, what it asks of the session, and else its reply.
@@ -201,11 +217,10 @@ pub fn end_line(
 ) -> Ending
     requires { ⌜ (3072 ≤ length (now numbers)) × (length (now links) ≡ 8192) × (8192 ≤ length (now out)) ⌝ }
     ensures { λ e. ⌜ Ends r (now (links .entry)) (now (line .entry)) e (now (numbers .exit)) (now (links .exit)) (now (out .exit)) ⌝ }
+    ensures { λ e. ⌜ Keeps (ownCount (e .request) (e .written)) (now (out .entry)) (now (out .exit)) ⌝ }
+    ensures { λ e. ⌜ Keeps 3072 (now (numbers .entry)) (now (numbers .exit)) ⌝ }
 {
-    if r.stopped {
-        return quiet(r);
-    }
-    if 65535 < r.number {
+    if over(r) {
         return quiet(r);
     }
     let held = rows::least(r.held, line.len());
@@ -217,8 +232,11 @@ pub fn end_line(
         kept,
         number: r.number + 1,
         held: 0,
-        written: answered.written,
         stopped: answered.stops,
     };
-    Ending { reader, request }
+    Ending {
+        reader,
+        request,
+        written: answered.written,
+    }
 }

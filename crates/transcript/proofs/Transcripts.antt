@@ -1,16 +1,17 @@
 -- The bytes of an input, fed one after another, print its transcript: of a dialogue to which a line that is too long is the same as
--- its first 6,145 bytes.
+-- its first 6,145 bytes, and stops.
 use mathlib.Core.Path.{_≡_, refl, sym, ap, _∙_}
 use mathlib.Core.Logic.{⊎-elim}
-use mathlib.Core.Bool.{Bool, true, false, _||_, cond}
+use mathlib.Core.Bool.{Bool, true, false, cond}
 use mathlib.Core.List.{List, [], _∷_, _++_, foldl, append-assoc, append-nil}
 use Prim.Native.Nat.{ℕ, zero, suc, _-_, _≤_, _<_}
 use native.Mathlib.Omega.{arith}
-use lib.Dec.{eqb, ltb}
-use lib.ListN.{take}
-use borrow.Author.Tests.{lt-ltb, le-ltb}
-use Rattle.mondschein.proofs.Logic.{less?, or-left, true-or, false-or}
-use Rattle.transcript.specs.Transcript.{begun, linesOf, blank, Turn, printedFrom, transcript, Reader, withLine, started, ended, fed, finished, PrintsTranscript, LineHeld, heldLine, LineByLine}
+use lib.Dec.{eqb}
+use lib.ListN.{length, take, length-take, length-append}
+use lib.Seq.{take-all, take-at}
+use borrow.Author.Tests.{lt-ltb, le-ltb, ltb-true, ltb-false}
+use Rattle.mondschein.proofs.Logic.{clash, less?, or-left, true-or, false-or}
+use Rattle.transcript.specs.Transcript.{begun, linesOf, blank, Turn, printedFrom, transcript, Reader, withLine, over, lengthened, tooLong, started, ended, lengthens, fed, finished, PrintsTranscript, StaysOver, LineHeld, heldLine, LineByLine}
 
 -- the lines of an input of which the first has begun with the bytes h
 unfoldable linesFrom : List ℕ → List ℕ → List (List ℕ)
@@ -48,15 +49,20 @@ take-nil : (n : ℕ) → take {A = List ℕ} n [] ≡ []
 take-nil zero = refl
 take-nil (suc n) = refl
 
--- what is cut off stays off
-cut-more : (n : ℕ) (h x : List ℕ) → take n (take n h ++ x) ≡ take n (h ++ x)
-cut-more zero h x = refl
-cut-more (suc n) [] x = refl
-cut-more (suc n) (y ∷ h) x = ap (λ (l : List ℕ). y ∷ l) (cut-more n h x)
+-- the lines of an input of which the first has begun with 6,145 bytes
+record Long (h s : List ℕ) : Type 0 where
+  pub first : List ℕ
+  pub others : List (List ℕ)
+  pub lines : linesFrom h s ≡ first ∷ others
+  pub begins : take 6145 first ≡ h
 
-cut-blank : (n : ℕ) (h : List ℕ) → blank (take (suc n) h) ≡ blank h
-cut-blank n [] = refl
-cut-blank n (y ∷ h) = refl
+lines-long : (h s : List ℕ) → length h ≡ 6145 → Long h s
+lines-long [] s q = absurd (omega (arith, q))
+lines-long (x ∷ h) s q = go (linesOf s) (lines-prefixed s (x ∷ h))
+  where
+    go : (ls : List (List ℕ)) → linesFrom (x ∷ h) s ≡ prefixed (x ∷ h) ls → Long (x ∷ h) s
+    go [] e = record { first = x ∷ h; others = []; lines = e; begins = take-all 6145 (x ∷ h) (omega (arith, q)) }
+    go (l ∷ ls) e = record { first = (x ∷ h) ++ l; others = ls; lines = e; begins = take-at (x ∷ h) l 6145 q }
 
 -- 65,535 lines of an input are read
 transcript-lines : {A : Type 0} (turn : A → ℕ → List ℕ → Turn A) (a : A) (input : List ℕ) → transcript turn a input ≡ printedFrom turn a 1 (take 65535 (linesOf input))
@@ -64,17 +70,9 @@ unfolding transcript
 transcript-lines turn a input = refl
 
 module _ {A : Type 0} (turn : A → ℕ → List ℕ → Turn A) where
-  -- a reader that has one more byte of its line
-  abbrev longer : Reader A → ℕ → Reader A
-  longer r b = withLine r (take 6145 (r .line ++ (b ∷ [])))
-
   -- what is printed for the rest of an input
   rest : Reader A → List ℕ → List ℕ
   rest r s = finished turn (foldl (fed turn) r s) .output
-
-  -- no more is read
-  abbrev Quiet : Reader A → Type 0
-  Quiet r = (r .stopped || ltb 65535 (r .number)) ≡ true
 
   -- the reader after the line l
   abbrev next : Reader A → List ℕ → Reader A
@@ -82,113 +80,170 @@ module _ {A : Type 0} (turn : A → ℕ → List ℕ → Turn A) where
       let t = turn (r .state) (r .number) l in
       record { state = t .after; number = suc (r .number); line = []; output = r .output ++ t .printed; stopped = t .stops }
 
-  ended-quiet : (r : Reader A) → Quiet r → ended turn r ≡ r
+  -- the line ends where no more is read, and where it is read
+  ended-by : (r : Reader A) (b : Bool) → over r ≡ b → ended turn r ≡ cond b r (next r (r .line))
   unfolding ended
-  ended-quiet r q = ap (λ (b : Bool). cond b r (next r (r .line))) q
+  ended-by r b q = ap (λ (c : Bool). cond c r (next r (r .line))) q
+
+  -- one more byte where no more is read, and where it is read
+  fed-by : (r : Reader A) (x : ℕ) (b : Bool) → over r ≡ b → fed turn r x ≡ cond b r (cond (eqb x 10) (ended turn r) (lengthens turn r (lengthened (r .line) x)))
+  unfolding fed
+  fed-by r x b q = ap (λ (c : Bool). cond c r (cond (eqb x 10) (ended turn r) (lengthens turn r (lengthened (r .line) x)))) q
+
+  foldl-over : (s : List ℕ) (r : Reader A) → over r ≡ true → foldl (fed turn) r s ≡ r
+  foldl-over [] r q = refl
+  foldl-over (b ∷ s) r q = ap (λ (x : Reader A). foldl (fed turn) x s) (fed-by r b true q) ∙ foldl-over s r q
+
+  finished-over : (r : Reader A) → over r ≡ true → finished turn r ≡ r
+  unfolding finished
+  finished-over r q = go (blank (r .line))
+    where
+      go : (t : Bool) → cond t r (ended turn r) ≡ r
+      go true = refl
+      go false = ended-by r true q
+
+  -- where no more is read, nothing that follows changes anything
+  pub stays-over : StaysOver turn
+  stays-over r q = (λ s. foldl-over s r q, finished-over r q)
+
+  -- a final line ends as at a line feed; where none has begun, nothing changes
+  pub finished-feed : (r : Reader A) → 1 ≤ length (r .line) → finished turn r ≡ fed turn r 10
+  unfolding finished fed
+  finished-feed r h = begins (r .line) h ∙ go (over r) refl
+    where
+      begins : (l : List ℕ) → 1 ≤ length l → cond (blank l) r (ended turn r) ≡ ended turn r
+      begins [] g = absurd (omega arith)
+      begins (b ∷ l) g = refl
+
+      go : (b : Bool) → over r ≡ b → ended turn r ≡ cond b r (ended turn r)
+      go true q = ended-by r true q
+      go false q = refl
+
+  pub finished-none : (r : Reader A) → r .line ≡ [] → finished turn r ≡ r
+  unfolding finished
+  finished-none r q = ap (λ (l : List ℕ). cond (blank l) r (ended turn r)) q
 
   -- then nothing is printed
-  stays : (s : List ℕ) (r : Reader A) → Quiet r → rest r s ≡ r .output
-  unfolding rest finished fed
-  stays [] r q = go (blank (r .line))
+  stays : (s : List ℕ) (r : Reader A) → over r ≡ true → rest r s ≡ r .output
+  unfolding rest
+  stays s r q = ap (λ (x : Reader A). finished turn x .output) (foldl-over s r q) ∙ ap (λ (x : Reader A). x .output) (finished-over r q)
+
+  -- what the lines print from the line of a reader on
+  abbrev lines : Reader A → List (List ℕ) → List ℕ
+  lines r ls = r .output ++ printedFrom turn (r .state) (r .number) (take (65536 - r .number) ls)
+
+  -- nothing, where no line is left or no more is read
+  lines-nil : (r : Reader A) → lines r [] ≡ r .output
+  unfolding printedFrom
+  lines-nil r = ap (λ (ls : List (List ℕ)). r .output ++ printedFrom turn (r .state) (r .number) ls) (take-nil (65536 - r .number)) ∙ append-nil (r .output)
+
+  lines-none : (r : Reader A) (ls : List (List ℕ)) → 65535 < r .number → lines r ls ≡ r .output
+  unfolding printedFrom
+  lines-none r ls h =
+      ap (λ (n : ℕ). r .output ++ printedFrom turn (r .state) (r .number) (take n ls)) (let z : 65536 - r .number ≡ 0 = omega arith in z)
+      ∙ append-nil (r .output)
+
+  -- one line, and then the others unless it stops
+  lines-cons : (r : Reader A) (h : List ℕ) (ls : List (List ℕ)) {out : List ℕ} → r .number ≤ 65535
+      → (next r h .stopped ≡ true → out ≡ next r h .output) → (next r h .stopped ≡ false → out ≡ lines (next r h) ls) → out ≡ lines r (h ∷ ls)
+  unfolding printedFrom
+  lines-cons r h ls {out} k yes-stop no-stop =
+      let e : 65536 - r .number ≡ suc (65536 - suc (r .number)) = omega arith in
+      rw e (go (next r h .stopped) refl ∙ append-assoc (r .output) (turn (r .state) (r .number) h .printed) _)
     where
-      go : (t : Bool) → cond t r (ended turn r) .output ≡ r .output
-      go true = refl
-      go false = ap (λ (z : Reader A). z .output) (ended-quiet r q)
-  stays (b ∷ s) r q = go (eqb b 10) (stays s r q) (stays s (longer r b) q)
-    where
-      go : (t : Bool) → rest r s ≡ r .output → rest (longer r b) s ≡ r .output → rest (cond t (ended turn r) (longer r b)) s ≡ r .output
-      go true p z = ap (λ (x : Reader A). rest x s) (ended-quiet r q) ∙ p
-      go false p z = z
+      others : List ℕ
+      others = printedFrom turn (next r h .state) (suc (r .number)) (take (65536 - suc (r .number)) ls)
 
-  module _ (cut : (a : A) (k : ℕ) (l : List ℕ) → turn a k (take 6145 l) ≡ turn a k l) where
-    -- the line ends
-    ended-next : (r : Reader A) (h : List ℕ) → (r .stopped || ltb 65535 (r .number)) ≡ false → r .line ≡ take 6145 h → ended turn r ≡ next r h
-    unfolding ended
-    ended-next r h q l =
-        ap (λ (b : Bool). cond b r (next r (r .line))) q
-        ∙ ap (λ (t : Turn A). record { state = t .after; number = suc (r .number); line = []; output = r .output ++ t .printed; stopped = t .stops })
-        (ap (turn (r .state) (r .number)) l ∙ cut (r .state) (r .number) h)
+      go : (b : Bool) → next r h .stopped ≡ b → out ≡ next r h .output ++ cond b [] others
+      go true q = yes-stop q ∙ sym (append-nil (next r h .output))
+      go false q = no-stop q
 
-    -- what the lines print from the line of a reader on
-    abbrev lines : Reader A → List (List ℕ) → List ℕ
-    lines r ls = r .output ++ printedFrom turn (r .state) (r .number) (take (65536 - r .number) ls)
-
-    -- nothing, where no line is left or no more is read
-    lines-nil : (r : Reader A) → lines r [] ≡ r .output
-    unfolding printedFrom
-    lines-nil r = ap (λ (ls : List (List ℕ)). r .output ++ printedFrom turn (r .state) (r .number) ls) (take-nil (65536 - r .number)) ∙ append-nil (r .output)
-
-    lines-none : (r : Reader A) (ls : List (List ℕ)) → 65535 < r .number → lines r ls ≡ r .output
-    unfolding printedFrom
-    lines-none r ls h =
-        ap (λ (n : ℕ). r .output ++ printedFrom turn (r .state) (r .number) (take n ls)) (let z : 65536 - r .number ≡ 0 = omega arith in z)
-        ∙ append-nil (r .output)
-
-    -- one line, and then the others unless it stops
-    lines-cons : (r : Reader A) (h : List ℕ) (ls : List (List ℕ)) {out : List ℕ} → r .number ≤ 65535
-        → (next r h .stopped ≡ true → out ≡ next r h .output) → (next r h .stopped ≡ false → out ≡ lines (next r h) ls) → out ≡ lines r (h ∷ ls)
-    unfolding printedFrom
-    lines-cons r h ls {out} k yes-stop no-stop =
-        let e : 65536 - r .number ≡ suc (65536 - suc (r .number)) = omega arith in
-        rw e (go (next r h .stopped) refl ∙ append-assoc (r .output) (turn (r .state) (r .number) h .printed) _)
-      where
-        others : List ℕ
-        others = printedFrom turn (next r h .state) (suc (r .number)) (take (65536 - suc (r .number)) ls)
-
-        go : (b : Bool) → next r h .stopped ≡ b → out ≡ next r h .output ++ cond b [] others
-        go true q = yes-stop q ∙ sym (append-nil (next r h .output))
-        go false q = no-stop q
+  module _ (cut : (a : A) (k : ℕ) (l : List ℕ) → turn a k (take 6145 l) ≡ turn a k l)
+      (stop : (a : A) (k : ℕ) (l : List ℕ) → 6144 < length l → turn a k l .stops ≡ true) where
+    -- a line that is too long prints what its first 6,145 bytes print, and stops
+    ended-long : (r : Reader A) (s : List ℕ) → length (r .line) ≡ 6145 → r .number ≤ 65535 → next r (r .line) .output ≡ lines r (linesFrom (r .line) s)
+    ended-long r s q g =
+        let m = lines-long (r .line) s q in
+        let same : next r (r .line) ≡ next r (m .first) = ap (λ (t : Turn A). record { state = t .after; number = suc (r .number); line = []; output = r .output ++ t .printed; stopped = t .stops })
+        (ap (turn (r .state) (r .number)) (sym (m .begins)) ∙ cut (r .state) (r .number) (m .first)) in
+        lines-cons r (m .first) (m .others) g (λ _. ap (λ (x : Reader A). x .output) same)
+        (λ f. clash (stop (r .state) (r .number) (r .line) (omega (arith, q))) (ap (λ (x : Reader A). x .stopped) same ∙ f))
+        ∙ sym (ap (lines r) (m .lines))
 
     -- what the rest of an input prints is what its lines print
-    prints : (s : List ℕ) (r : Reader A) (h : List ℕ) → r .stopped ≡ false → r .line ≡ take 6145 h → rest r s ≡ lines r (linesFrom h s)
-    unfolding rest finished fed linesFrom
-    prints [] r h q l = ap (λ (t : Bool). cond t r (ended turn r) .output) (ap blank l ∙ cut-blank 6144 h) ∙ go (blank h)
+    prints : (s : List ℕ) (r : Reader A) → r .stopped ≡ false → length (r .line) ≤ 6144 → rest r s ≡ lines r (linesFrom (r .line) s)
+    unfolding rest finished linesFrom
+    prints [] r q l =
+        ⊎-elim
+        (λ (g : 65535 < r .number). stays [] r (true-or (r .stopped) _ (lt-ltb _ _ g)) ∙ sym (lines-none r (linesFrom (r .line) []) g))
+        (λ (g : r .number ≤ 65535). go (blank (r .line)) g)
+        (less? 65535 (r .number))
       where
-        go : (t : Bool) → cond t r (ended turn r) .output ≡ lines r (cond t [] (h ∷ []))
-        go true = sym (lines-nil r)
-        go false =
-            ⊎-elim
-            (λ (g : 65535 < r .number). ap (λ (z : Reader A). z .output) (ended-quiet r (true-or (r .stopped) _ (lt-ltb _ _ g))) ∙ sym (lines-none r (h ∷ []) g))
-            (λ (g : r .number ≤ 65535).
-            ap (λ (z : Reader A). z .output) (ended-next r h (false-or _ _ q (le-ltb _ _ g)) l)
-            ∙ lines-cons r h [] g (λ _. refl) (λ _. sym (lines-nil (next r h))))
-            (less? 65535 (r .number))
-    prints (b ∷ s) r h q l =
-        go (eqb b 10) (λ f. prints s (next r h) [] f refl)
-        (prints s (longer r b) (h ++ (b ∷ [])) q (ap (λ (x : List ℕ). take 6145 (x ++ (b ∷ []))) l ∙ cut-more 6145 h (b ∷ [])))
+        go : (t : Bool) → r .number ≤ 65535 → cond t r (ended turn r) .output ≡ lines r (cond t [] (r .line ∷ []))
+        go true g = sym (lines-nil r)
+        go false g =
+            ap (λ (z : Reader A). z .output) (ended-by r false (false-or _ _ q (le-ltb _ _ g)))
+            ∙ lines-cons r (r .line) [] g (λ _. refl) (λ _. sym (lines-nil (next r (r .line))))
+    prints (b ∷ s) r q l =
+        ⊎-elim
+        (λ (g : 65535 < r .number). stays (b ∷ s) r (true-or (r .stopped) _ (lt-ltb _ _ g)) ∙ sym (lines-none r (linesFrom (r .line) (b ∷ s)) g))
+        (λ (g : r .number ≤ 65535).
+        let o = false-or _ _ q (le-ltb _ _ g) in
+        ap (λ (x : Reader A). rest x s) (fed-by r b false o)
+        ∙ go g o (eqb b 10) (tooLong more) refl (λ f. prints s (next r (r .line)) f (omega arith)) (λ f. prints s (withLine r more) q (ltb-false 6144 (length more) f)))
+        (less? 65535 (r .number))
       where
-        go : (t : Bool) → (next r h .stopped ≡ false → rest (next r h) s ≡ lines (next r h) (linesFrom [] s))
-            → rest (longer r b) s ≡ lines r (linesFrom (h ++ (b ∷ [])) s)
-            → rest (cond t (ended turn r) (longer r b)) s ≡ lines r (cond t (h ∷ linesFrom [] s) (linesFrom (h ++ (b ∷ [])) s))
-        go true p z =
-            ⊎-elim
-            (λ (g : 65535 < r .number).
-            ap (λ (x : Reader A). rest x s) (ended-quiet r (true-or (r .stopped) _ (lt-ltb _ _ g)))
-            ∙ stays s r (true-or (r .stopped) _ (lt-ltb _ _ g))
-            ∙ sym (lines-none r _ g))
-            (λ (g : r .number ≤ 65535).
-            ap (λ (x : Reader A). rest x s) (ended-next r h (false-or _ _ q (le-ltb _ _ g)) l)
-            ∙ lines-cons r h _ g (λ t. stays s (next r h) (or-left _ _ t)) p)
-            (less? 65535 (r .number))
-        go false p z = z
+        more : List ℕ
+        more = lengthened (r .line) b
+
+        whole : lines r (linesFrom more s) ≡ lines r (linesFrom (r .line ++ (b ∷ [])) s)
+        whole = ap (λ (x : List ℕ). lines r (linesFrom x s)) (take-all 6145 (r .line ++ (b ∷ [])) (omega (arith, l, length-append (r .line) (b ∷ []))))
+
+        go : r .number ≤ 65535 → over r ≡ false → (c t : Bool) → tooLong more ≡ t
+            → (next r (r .line) .stopped ≡ false → rest (next r (r .line)) s ≡ lines (next r (r .line)) (linesFrom [] s))
+            → (tooLong more ≡ false → rest (withLine r more) s ≡ lines r (linesFrom more s))
+            → rest (cond c (ended turn r) (cond t (ended turn (withLine r more)) (withLine r more))) s ≡ lines r (cond c (r .line ∷ linesFrom [] s) (linesFrom (r .line ++ (b ∷ [])) s))
+        go g o true t u p z =
+            ap (λ (x : Reader A). rest x s) (ended-by r false o)
+            ∙ lines-cons r (r .line) (linesFrom [] s) g (λ y. stays s (next r (r .line)) (or-left _ _ y)) p
+        go g o false true u p z =
+            let long = ltb-true 6144 (length more) u in
+            ap (λ (x : Reader A). rest x s) (ended-by (withLine r more) false o)
+            ∙ stays s (next r more) (or-left _ _ (stop (r .state) (r .number) more long))
+            ∙ ended-long (withLine r more) s (omega (arith, long, length-take 6145 (r .line ++ (b ∷ [])))) g
+            ∙ whole
+        go g o false false u p z = z u ∙ whole
 
     pub prints-transcript : PrintsTranscript turn
     unfolding rest
     prints-transcript a input =
-        prints input (started turn a) [] refl refl
+        prints input (started turn a) refl (omega arith)
         ∙ ap (λ (ls : List (List ℕ)). printedFrom turn a 1 (take 65535 ls)) (lines-begin input)
         ∙ sym (transcript-lines turn a input)
 
--- a block, line by line
-pub line-by-line : {A : Type 0} (turn : A → ℕ → List ℕ → Turn A) → LineByLine turn
-unfolding fed heldLine
-line-by-line turn r [] = refl
-line-by-line {A} turn r (b ∷ s) = go (eqb b 10) (line-by-line turn (longer turn r b) s)
-  where
-    after : LineHeld → Reader A
-    after h = cond (h .ends) (foldl (fed turn) (ended turn (withLine r (h .line))) (h .rest)) (withLine r (h .line))
+-- a block, line by line, where it is read
+module _ {A : Type 0} (turn : A → ℕ → List ℕ → Turn A) where
+  abbrev after : Reader A → LineHeld → Reader A
+  after r h = cond (h .ends) (foldl (fed turn) (ended turn (withLine r (h .line))) (h .rest)) (withLine r (h .line))
 
-    go : (t : Bool) → foldl (fed turn) (longer turn r b) s ≡ after (heldLine (take 6145 (r .line ++ (b ∷ []))) s)
-        → foldl (fed turn) (cond t (ended turn r) (longer turn r b)) s ≡ after (cond t (record { line = r .line; rest = s; ends = true }) (heldLine (take 6145 (r .line ++ (b ∷ []))) s))
-    go true p = refl
-    go false p = p
+  held-line : (block : List ℕ) (r : Reader A) → over r ≡ false → foldl (fed turn) r block ≡ after r (heldLine (r .line) block)
+  unfolding heldLine
+  held-line [] r q = refl
+  held-line (b ∷ s) r q = ap (λ (y : Reader A). foldl (fed turn) y s) (fed-by turn r b false q) ∙ step (eqb b 10) (tooLong more) (held-line s (withLine r more) q)
+    where
+      more : List ℕ
+      more = lengthened (r .line) b
+
+      step : (c t : Bool) → foldl (fed turn) (withLine r more) s ≡ after r (heldLine more s)
+          → foldl (fed turn) (cond c (ended turn r) (cond t (ended turn (withLine r more)) (withLine r more))) s
+          ≡ after r (cond c (record { line = r .line; rest = s; ends = true }) (cond t (record { line = more; rest = s; ends = true }) (heldLine more s)))
+      step true t p = refl
+      step false true p = refl
+      step false false p = p
+
+  pub line-by-line : LineByLine turn
+  line-by-line r block = go (over r) refl
+    where
+      go : (b : Bool) → over r ≡ b → foldl (fed turn) r block ≡ cond b r (after r (heldLine (r .line) block))
+      go true q = foldl-over turn block r q
+      go false q = held-line block r q

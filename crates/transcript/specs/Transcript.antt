@@ -1,11 +1,11 @@
 -- Document 01, "Lines of threeways": the lines of an input, and what is printed for them, one line after another.
--- The input comes byte by byte; of a line no more is held than shows that it is too long.
+-- The input comes byte by byte; a line ends at its line feed, or at the byte that shows that it is too long.
 use mathlib.Core.Path.{_≡_}
 use mathlib.Core.Bool.{Bool, true, false, _||_, cond}
 use mathlib.Core.List.{List, [], _∷_, _++_, foldl}
 use Prim.Native.Nat.{ℕ, suc}
 use lib.Dec.{eqb, ltb}
-use lib.ListN.{take, drop}
+use lib.ListN.{length, take, drop}
 use Rattle.transcript.specs.declared.Held.{Held}
 
 -- one more byte at the beginning of the first line
@@ -57,20 +57,36 @@ unprinted r = record { state = r .state; number = r .number; line = r .line; out
 abbrev pub withLine : {A : Type 0} → Reader A → List ℕ → Reader A
 withLine r l = record { state = r .state; number = r .number; line = l; output = r .output; stopped = r .stopped }
 
+-- no more is read: a line stopped the dialogue, or 65,535 lines were read
+abbrev pub over : {A : Type 0} → Reader A → Bool
+over r = r .stopped || ltb 65535 (r .number)
+
+-- a line with one more byte; 6,145 are enough, for they show that it is too long
+abbrev pub lengthened : List ℕ → ℕ → List ℕ
+lengthened l b = take 6145 (l ++ (b ∷ []))
+
+-- the line is too long
+abbrev pub tooLong : List ℕ → Bool
+tooLong l = ltb 6144 (length l)
+
 module _ {A : Type 0} (turn : A → ℕ → List ℕ → Turn A) where
   abbrev pub started : A → Reader A
   started a = record { state = a; number = 1; line = []; output = []; stopped = false }
 
-  -- the line ends here; only the first 65,535 lines are read
+  -- the line ends here
   unfoldable pub ended : Reader A → Reader A
   ended r =
       let t = turn (r .state) (r .number) (r .line) in
-      cond (r .stopped || ltb 65535 (r .number)) r
+      cond (over r) r
       (record { state = t .after; number = suc (r .number); line = []; output = r .output ++ t .printed; stopped = t .stops })
 
-  -- one more byte; 6,145 of a line are enough
+  -- the line is now l: it goes on, or ends where it is too long
+  abbrev pub lengthens : Reader A → List ℕ → Reader A
+  lengthens r l = cond (tooLong l) (ended (withLine r l)) (withLine r l)
+
+  -- one more byte: a line ends at its line feed, or at the byte that shows that it is too long
   unfoldable pub fed : Reader A → ℕ → Reader A
-  fed r b = cond (eqb b 10) (ended r) (withLine r (take 6145 (r .line ++ (b ∷ []))))
+  fed r b = cond (over r) r (cond (eqb b 10) (ended r) (lengthens r (lengthened (r .line) b)))
 
   -- the end of the input: a final line without line feed
   unfoldable pub finished : Reader A → Reader A
@@ -79,6 +95,10 @@ module _ {A : Type 0} (turn : A → ℕ → List ℕ → Turn A) where
   -- the bytes of an input one after another, and its end, print the transcript
   abbrev pub PrintsTranscript : Type 0
   PrintsTranscript = (a : A) (input : List ℕ) → finished (foldl fed (started a) input) .output ≡ transcript turn a input
+
+  -- where no more is read, nothing that follows changes anything, nor does the end of the input
+  abbrev pub StaysOver : Type 0
+  StaysOver = (r : Reader A) → over r ≡ true → ((input : List ℕ) → foldl fed r input ≡ r) × (finished r ≡ r)
 
 -- what a block leaves of a line: its bytes so far, the block after it, and whether it ends there
 pub record LineHeld : Type 0 where
@@ -89,12 +109,15 @@ pub record LineHeld : Type 0 where
 -- the line l goes on with a block
 unfoldable pub heldLine : List ℕ → List ℕ → LineHeld
 heldLine l [] = record { line = l; rest = []; ends = false }
-heldLine l (b ∷ s) = cond (eqb b 10) (record { line = l; rest = s; ends = true }) (heldLine (take 6145 (l ++ (b ∷ []))) s)
+heldLine l (b ∷ s) =
+    cond (eqb b 10) (record { line = l; rest = s; ends = true })
+    (cond (tooLong (lengthened l b)) (record { line = lengthened l b; rest = s; ends = true }) (heldLine (lengthened l b) s))
 
 -- a block taken line by line is its bytes taken one after another
 abbrev pub LineByLine : {A : Type 0} → (A → ℕ → List ℕ → Turn A) → Type 0
 LineByLine {A} turn = (r : Reader A) (block : List ℕ) → foldl (fed turn) r block
-    ≡ (let h = heldLine (r .line) block in cond (h .ends) (foldl (fed turn) (ended turn (withLine r (h .line))) (h .rest)) (withLine r (h .line)))
+    ≡ (let h = heldLine (r .line) block in
+    cond (over r) r (cond (h .ends) (foldl (fed turn) (ended turn (withLine r (h .line))) (h .rest)) (withLine r (h .line))))
 
 -- what a block leaves of a line, with the line and the block in slices
 abbrev pub heldIn : Held → List ℕ → List ℕ → LineHeld

@@ -26,7 +26,7 @@ pub struct Held {
     pub ends: bool,
 }
 
-// Holds the bytes of a block from a place on, up to the next line feed.
+// Holds the bytes of a block from a place on, up to the next line feed, or to the byte that shows that the line is too long.
 pub fn hold_line(line: &mut [u8], held: usize, block: &[u8], from: usize) -> Held
     requires { ⌜ (length (now line) ≡ 6145) × (from ≤ length (now block)) ⌝ }
     ensures { λ r. ⌜ heldIn r (now (line .exit)) (now (block .entry)) ≡ heldLine (take held (now (line .entry))) (drop from (now (block .entry))) ⌝ }
@@ -45,6 +45,13 @@ pub fn hold_line(line: &mut [u8], held: usize, block: &[u8], from: usize) -> Hel
         }
         count = hold(line, count, byte);
         i += 1;
+        if 6144 < count {
+            return Held {
+                held: count,
+                next: i,
+                ends: true,
+            };
+        }
     }
     Held {
         held: count,

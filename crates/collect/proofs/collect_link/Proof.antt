@@ -1,4 +1,5 @@
 use Prim.Native.Nat.{_<_, _+_, _*_}
+use mathlib.Core.Path.{refl}
 use native.Mathlib.Omega.{arith}
 use lib.ListN.{length, set, length-set}
 use Rattle.collect.proofs.Collecting.{link-full, link-more}
@@ -18,7 +19,8 @@ returns c =
     let at-if = at-unread .before .before in
     let start = at-if .before .before .before in
     let a = start .args in
-    link-full (a .d) (a .links .now) (a .number) (a .a) (a .b) (start .pre .0) _ (at-unread .unread .result) (omega (arith, at-if .if1 .taken)) (at-unread .unread .ensures)
+    let full = link-full (a .d) (a .links .now) (a .number) (a .a) (a .b) (start .pre .0) _ (at-unread .unread .result) (omega (arith, at-if .if1 .taken)) (at-unread .unread .ensures .0) in
+    (full, at-unread .unread .ensures .1)
 
 cast-i : tie.Need-cast-i
 cast-i c = search needs
@@ -59,7 +61,7 @@ returns-2 : tie.Need-returns-2
 returns-2 c =
     let start = c .before .before .before .before in
     let a = start .args in
-    link-more (a .d) (a .links .now) (a .number) (a .a) (a .b) (start .pre .0) (a .out .now) (c .asking .result) (omega (arith, c .before .if1 .left)) (c .asking .ensures)
+    (link-more (a .d) (a .links .now) (a .number) (a .a) (a .b) (start .pre .0) (a .out .now) (c .asking .result) (omega (arith, c .before .if1 .left)) (c .asking .ensures), refl)
 
 pub collect-link-spec : {M : Type 1} → statement M
 collect-link-spec =

@@ -60,7 +60,7 @@ unfolding respond requested respondTo
 returns c =
     let read = c .before .before in
     let a = read .before .before .before .before .args in
-    responds-as (a .d) (a .links .now) (a .number) (a .out .now) (read .form .given .1) (c .collect-net .ensures) (λ s numbers. refl)
+    (responds-as (a .d) (a .links .now) (a .number) (a .out .now) (read .form .given .1) (c .collect-net .ensures) (λ s numbers. refl), refl)
 
 same-length : tie.Need-same-length
 same-length c = search needs
@@ -73,45 +73,47 @@ unfolding respondTo
 returns-2 c =
     let at-collect = c .before .before .before .before in
     let read = at-collect .before .before .before .before in
-    let a = read .before .before .before .before .args in
-    λ s numbers.
-    at-collect .collect-link .ensures s numbers
-    ∙ sym (ap (λ (f : Form). respondTo (dialogueIn (a .d) s (a .links .now)) (a .number) f numbers) (read .form2 .given .1))
+    let a = read .before .before .before .before .args in (
+      λ s numbers.
+          at-collect .collect-link .ensures .0 s numbers
+          ∙ sym (ap (λ (f : Form). respondTo (dialogueIn (a .d) s (a .links .now)) (a .number) f numbers) (read .form2 .given .1)),
+      at-collect .collect-link .ensures .1,
+    )
 
 returns-3 : tie.Need-returns-3
 unfolding formOf requested respondTo
 returns-3 c =
     let read = c .before in
     let a = read .before .before .before .before .args in
-    responds-as (a .d) (a .links .now) (a .number) (a .out .now) (read .enum-told .given .1) (c .asking .ensures) (λ s numbers. refl)
+    (responds-as (a .d) (a .links .now) (a .number) (a .out .now) (read .enum-told .given .1) (c .asking .ensures) (λ s numbers. refl), refl)
 
 returns-4 : tie.Need-returns-4
 unfolding formOf requested respondTo
 returns-4 c =
     let read = c .before .before in
     let a = read .before .before .before .before .args in
-    responds-as (a .d) (a .links .now) (a .number) (a .out .now) (read .form3 .given .1) (c .asking2 .ensures) (λ s numbers. refl)
+    (responds-as (a .d) (a .links .now) (a .number) (a .out .now) (read .form3 .given .1) (c .asking2 .ensures) (λ s numbers. refl), refl)
 
 returns-5 : tie.Need-returns-5
 unfolding formOf requested respondTo
 returns-5 c =
     let read = c .before in
     let a = read .before .before .before .before .args in
-    responds-as (a .d) (a .links .now) (a .number) (a .out .now) (read .enum-told2 .given .1) (c .asking3 .ensures) (λ s numbers. refl)
+    (responds-as (a .d) (a .links .now) (a .number) (a .out .now) (read .enum-told2 .given .1) (c .asking3 .ensures) (λ s numbers. refl), refl)
 
 returns-6 : tie.Need-returns-6
 unfolding requested respondTo
 returns-6 c =
     let read = c .before .before in
     let a = read .before .before .before .before .args in
-    responds-as (a .d) (a .links .now) (a .number) (a .out .now) (read .form4 .given .1) (c .asking4 .ensures) (λ s numbers. refl)
+    (responds-as (a .d) (a .links .now) (a .number) (a .out .now) (read .form4 .given .1) (c .asking4 .ensures) (λ s numbers. refl), refl)
 
 returns-7 : tie.Need-returns-7
 unfolding formOf requested respondTo
 returns-7 c =
     let read = c .before in
     let a = read .before .before .before .before .args in
-    responds-as (a .d) (a .links .now) (a .number) (a .out .now) (read .enum-told3 .given .1) (c .asking5 .ensures) (λ s numbers. refl)
+    (responds-as (a .d) (a .links .now) (a .number) (a .out .now) (read .enum-told3 .given .1) (c .asking5 .ensures) (λ s numbers. refl), refl)
 
 same-length-3 : tie.Need-same-length-3
 same-length-3 c = search needs
@@ -121,10 +123,12 @@ unfolding respond requested respondTo
 returns-8 c =
     let at-unread = c .before .before in
     let read = at-unread .before .before in
-    let a = read .before .before .before .before .args in
-    λ s numbers.
-    ap (turnOf s (a .number) numbers (a .links .now)) (at-unread .unread .ensures)
-    ∙ sym (ap (λ (f : Form). respondTo (dialogueIn (a .d) s (a .links .now)) (a .number) f numbers) (read .enum-told4 .given .1))
+    let a = read .before .before .before .before .args in (
+      λ s numbers.
+          ap (turnOf s (a .number) numbers (a .links .now)) (at-unread .unread .ensures .0)
+          ∙ sym (ap (λ (f : Form). respondTo (dialogueIn (a .d) s (a .links .now)) (a .number) f numbers) (read .enum-told4 .given .1)),
+      at-unread .unread .ensures .1,
+    )
 
 pub respond-spec : {M : Type 1} → statement M
 respond-spec =

@@ -1,10 +1,9 @@
-use Prim.Native.Nat.{ℕ, _≤_, _+_, _-_}
-use mathlib.Core.Path.{_≡_, refl, sym, ap, _∙_}
-use mathlib.Core.List.{List}
+use Prim.Native.Nat.{ℕ, _≤_, _-_}
+use mathlib.Core.Path.{_≡_, refl, sym, _∙_}
 use native.Mathlib.Omega.{arith}
 use lib.ListN.{length, take, drop}
 use Rattle.transcript.specs.Transcript.{heldLine}
-use Rattle.transcript.proofs.Holding.{held-end, held-feed, held-byte}
+use Rattle.transcript.proofs.Holding.{held-end, held-feed, held-long, held-byte}
 use borrow.Author.Needs.{needs}
 use Rattle.transcript.proofs.hold_line.Statement.{statement}
 use Rattle.transcript.proofs.hold_line.Tie as tie
@@ -43,25 +42,49 @@ hold-requires c κs = search needs
 add-i : tie.Need-add-i Inv-loop μ-loop
 add-i c = search needs
 
-loop-less : tie.Need-loop-less Inv-loop μ-loop
-loop-less c = search needs
+-- where the byte was held, where it was tested, and the loop's body
+abbrev at-hold : tie.After-slice-known2 Inv-loop μ-loop → tie.After-hold Inv-loop μ-loop
+at-hold c = c .before .before
 
-loop-again : tie.Need-loop-again Inv-loop μ-loop
-loop-again c =
-    let at-hold = c .before .before in
-    let at-if = at-hold .before .before in
-    let at-test = at-if .before .before in
-    let block = at-test .before .before .before .before .args .block .now in
-    let l = at-test .before .loop in
-    let byte = held-byte (take (l .count) (l .line)) block (l .i) (at-test .loop-test .taken) (at-if .if1 .left) in
-    let more = ap (λ (x : List ℕ). heldLine x (drop (l .i + 1) block)) (sym (at-hold .hold .ensures)) in
-    (omega arith, omega arith, search needs, l .inv .3, l .inv .4 ∙ byte ∙ more)
+abbrev at-if : tie.After-hold Inv-loop μ-loop → tie.Else1 Inv-loop μ-loop
+at-if c = c .before .before
+
+abbrev body : tie.Else1 Inv-loop μ-loop → tie.In-loop Inv-loop μ-loop
+body c = c .before .before
+
+abbrev start : tie.In-loop Inv-loop μ-loop → tie.Start Inv-loop μ-loop
+start c = c .before .before .before .before
 
 same-length-2 : tie.Need-same-length-2 Inv-loop μ-loop
 same-length-2 c = search needs
 
 returns-2 : tie.Need-returns-2 Inv-loop μ-loop
 returns-2 c =
+    let h = at-hold (c .before) in
+    let b = body (at-if h) in
+    let block = start b .args .block .now in
+    let l = b .before .loop in
+    let long = held-long (take (l .count) (l .line)) block (l .i) (b .loop-test .taken) (at-if h .if1 .left) (h .hold .last .0) (h .hold .result) (h .hold .kept .0 ∙ l .inv .2) (h .hold .ensures) (omega (arith, c .if2 .taken)) in
+    (long ∙ sym (l .inv .4), (omega arith, λ _. omega arith))
+
+loop-less : tie.Need-loop-less Inv-loop μ-loop
+loop-less c = search needs
+
+loop-again : tie.Need-loop-again Inv-loop μ-loop
+loop-again c =
+    let h = at-hold (c .before) in
+    let b = body (at-if h) in
+    let block = start b .args .block .now in
+    let l = b .before .loop in
+    let whole = h .hold .kept .0 ∙ l .inv .2 in
+    let byte = held-byte (take (l .count) (l .line)) block (l .i) (b .loop-test .taken) (at-if h .if1 .left) (h .hold .last .0) (h .hold .result) whole (h .hold .ensures) (omega (arith, c .if2 .left)) in
+    (omega arith, omega arith, whole, l .inv .3, l .inv .4 ∙ byte)
+
+same-length-3 : tie.Need-same-length-3 Inv-loop μ-loop
+same-length-3 c = search needs
+
+returns-3 : tie.Need-returns-3 Inv-loop μ-loop
+returns-3 c =
     let block = c .before .before .before .before .args .block .now in
     let l = c .before .loop in
     let end = held-end (take (l .count) (l .line)) block (l .i) (c .loop-test .left) in
@@ -80,7 +103,9 @@ hold-line-spec =
     returns
     hold-requires
     add-i
+    same-length-2
+    returns-2
     loop-less
     loop-again
-    same-length-2
-    returns-2)
+    same-length-3
+    returns-3)

@@ -9,7 +9,7 @@ fresh-requires : tie.Need-fresh-requires
 fresh-requires c κs = search needs
 
 returns : tie.Need-returns
-returns c = ap (λ (k : Kept). record { kept = k; number = 1; held = 0; written = 0; stopped = false }) (c .fresh .ensures)
+returns c = ap (λ (k : Kept). record { kept = k; number = 1; held = 0; stopped = false }) (c .fresh .ensures)
 
 pub start-spec : {M : Type 1} → statement M
 start-spec = tie.close (tie.spec fresh-requires returns)
