@@ -1,1 +1,3 @@
+pub mod Slices
 pub mod Blocks
+pub mod Inputs

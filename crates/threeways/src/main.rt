@@ -1,84 +1,252 @@
 // threeways: reads standard input in blocks, hands their bytes to the dialogue, and writes the replies before it reads on.
-// Memory is fixed: one block, one line, the numbers of an ear, the links collected, replies, and the session.
+// Memory is fixed: one block, one line, the numbers of an ear, the links collected, replies, and the session's arrays with their index.
 use collect::Reader;
-use session::Session;
+use in_place::Session;
+use in_place::State;
 ghost use mathlib.Core.Path.{_≡_};
+ghost use mathlib.Core.Bool.{true};
 ghost use Prim.Native.Nat.{_≤_};
 ghost use lib.ListN.{length};
-ghost use Rattle.dialogue.specs.Taking.{Takes};
+ghost use Rattle.in_place.specs.InPlace.{sessionIn, SizedAs, IndexedIn};
+ghost use Rattle.collect.specs.Answering.{Keeps};
+ghost use Rattle.dialogue.specs.Taking.{Takes, Led};
+ghost use Rattle.threeways.specs.Running.{EndsWith};
 
-// What is known after a block, and the session.
+// What is known after a block, the state of the session, and whether its replies were written.
 struct Known {
     reader: Reader,
-    session: Session,
+    state: State,
+    written: bool,
 }
 
 // Takes the lines of a block, and writes their replies.
 fn take_block(
     r: Reader,
-    s: Session,
+    st: State,
     block: &[u8],
     line: &mut [u8],
     numbers: &mut [u16],
     links: &mut [u16],
+    table: &mut [u16],
+    used: &mut [u8],
+    births: &mut [u16],
+    order: &mut [u16],
+    tree1: &mut [u16],
+    tree2: &mut [u16],
+    tree3: &mut [u16],
+    index: &mut [u16],
     out: &mut [u8],
 ) -> Known
-    requires { ⌜ (length (now line) ≡ 6145) × (3072 ≤ length (now numbers)) × (length (now links) ≡ 8192) × (8192 ≤ length (now out)) ⌝ }
-    ensures { λ k. ⌜ Takes r s (now (links .entry)) (now (line .entry)) (now (block .entry)) (k .reader) (k .session) (now (links .exit)) (now (line .exit)) ⌝ }
+    requires { ⌜ (length (now line) ≡ 6145) × (3072 ≤ length (now numbers)) × (length (now links) ≡ 8192) × (8192 ≤ length (now out)) × SizedAs (now table) (now used) (now births) (now order) (now tree1) (now tree2) (now tree3) × IndexedIn st (now table) (now index) ⌝ }
+    ensures { λ k. ⌜ (k .written ≡ true → Takes r (sessionIn st (now (table .entry)) (now (used .entry)) (now (births .entry)) (now (order .entry)) (now (tree1 .entry)) (now (tree2 .entry)) (now (tree3 .entry))) (now (links .entry)) (now (line .entry)) (now (block .entry)) (k .reader) (sessionIn (k .state) (now (table .exit)) (now (used .exit)) (now (births .exit)) (now (order .exit)) (now (tree1 .exit)) (now (tree2 .exit)) (now (tree3 .exit))) (now (links .exit)) (now (line .exit))) ⌝ }
+    ensures { λ k. ⌜ Keeps 3072 (now (numbers .entry)) (now (numbers .exit)) × IndexedIn (k .state) (now (table .exit)) (now (index .exit)) ⌝ }
 {
     let mut reader = r;
-    let mut session = s;
+    let mut state = st;
     let mut from = 0;
     while from < block.len() {
-        let taken = dialogue::take_lines(reader, session, block, from, line, numbers, links, out);
-        io::write_all(1, dialogue::reply(out, taken.written));
+        let taken = dialogue::take_lines(
+            reader,
+            state,
+            block,
+            from,
+            line,
+            numbers,
+            links,
+            table,
+            used,
+            births,
+            order,
+            tree1,
+            tree2,
+            tree3,
+            index,
+            out,
+        );
         reader = taken.reader;
-        session = taken.session;
+        state = taken.state;
         from = taken.next;
+        if !io::write_all(1, dialogue::reply(out, taken.written)) {
+            return Known {
+                reader,
+                state,
+                written: false,
+            };
+        }
     }
-    Known { reader, session }
+    Known {
+        reader,
+        state,
+        written: true,
+    }
 }
 
-// At the end of the input: a line feed ends a final line that lacks it.
-fn finish(
+// How a run ends: with the input, where no more is read, or where a read or a write failed.
+enum End {
+    Input,
+    Over,
+    NotRead,
+    NotWritten,
+}
+
+// What is known where a run ends, the state of the session, and how it ends.
+struct Ended {
+    reader: Reader,
+    state: State,
+    end: End,
+}
+
+// At the end of the input: answers a final line without line feed.
+fn end_input(
     r: Reader,
-    s: Session,
+    st: State,
     line: &mut [u8],
     numbers: &mut [u16],
     links: &mut [u16],
+    table: &mut [u16],
+    used: &mut [u8],
+    births: &mut [u16],
+    order: &mut [u16],
+    tree1: &mut [u16],
+    tree2: &mut [u16],
+    tree3: &mut [u16],
+    index: &mut [u16],
     out: &mut [u8],
-)
-    requires { ⌜ (length (now line) ≡ 6145) × (3072 ≤ length (now numbers)) × (length (now links) ≡ 8192) × (8192 ≤ length (now out)) ⌝ }
+) -> Ended
+    requires { ⌜ (length (now line) ≡ 6145) × (3072 ≤ length (now numbers)) × (length (now links) ≡ 8192) × (8192 ≤ length (now out)) × SizedAs (now table) (now used) (now births) (now order) (now tree1) (now tree2) (now tree3) × IndexedIn st (now table) (now index) ⌝ }
+    ensures { λ k. ⌜ (Led r (sessionIn st (now (table .entry)) (now (used .entry)) (now (births .entry)) (now (order .entry)) (now (tree1 .entry)) (now (tree2 .entry)) (now (tree3 .entry))) (now (links .entry)) (now (line .entry)) → EndsWith (k .end) (k .reader) (sessionIn (k .state) (now (table .exit)) (now (used .exit)) (now (births .exit)) (now (order .exit)) (now (tree1 .exit)) (now (tree2 .exit)) (now (tree3 .exit))) (now (links .exit)) (now (line .exit))) ⌝ }
 {
-    if r.held == 0 {
-        return;
+    let finished = dialogue::finish(
+        r,
+        st,
+        line,
+        numbers,
+        links,
+        table,
+        used,
+        births,
+        order,
+        tree1,
+        tree2,
+        tree3,
+        index,
+        out,
+    );
+    let reader = finished.reader;
+    let state = finished.state;
+    if io::write_all(1, dialogue::reply(out, finished.written)) {
+        return Ended {
+            reader,
+            state,
+            end: End::Input,
+        };
     }
-    let feed = [b'\n'; 1];
-    take_block(r, s, &feed, line, numbers, links, out);
+    Ended {
+        reader,
+        state,
+        end: End::NotWritten,
+    }
 }
 
-// Reads blocks to the end of the input, or until no more is read.
+// Reads blocks to the end of the input, or until no more is read, or a read or a write fails.
 // A proved loop has to end, and nothing says that an input does: it counts its turns down from a number that no run uses up.
-fn run(line: &mut [u8], numbers: &mut [u16], links: &mut [u16], out: &mut [u8])
-    requires { ⌜ (length (now line) ≡ 6145) × (3072 ≤ length (now numbers)) × (length (now links) ≡ 8192) × (8192 ≤ length (now out)) ⌝ }
+fn run(
+    line: &mut [u8],
+    numbers: &mut [u16],
+    links: &mut [u16],
+    table: &mut [u16],
+    used: &mut [u8],
+    births: &mut [u16],
+    order: &mut [u16],
+    tree1: &mut [u16],
+    tree2: &mut [u16],
+    tree3: &mut [u16],
+    index: &mut [u16],
+    out: &mut [u8],
+) -> Ended
+    requires { ⌜ (length (now line) ≡ 6145) × (3072 ≤ length (now numbers)) × (length (now links) ≡ 8192) × (8192 ≤ length (now out)) × SizedAs (now table) (now used) (now births) (now order) (now tree1) (now tree2) (now tree3) ⌝ }
+    ensures { λ k. ⌜ EndsWith (k .end) (k .reader) (sessionIn (k .state) (now (table .exit)) (now (used .exit)) (now (births .exit)) (now (order .exit)) (now (tree1 .exit)) (now (tree2 .exit)) (now (tree3 .exit))) (now (links .exit)) (now (line .exit)) ⌝ }
 {
     let mut reader = Reader::start();
-    let mut session = Session::empty();
+    let mut state = in_place::clear(table, used, births, order, tree1, tree2, tree3, index);
     let mut turns = u64::MAX;
     while 0 < turns {
         turns -= 1;
         let mut block = io::buffer();
         let got = libc::read(0, &mut block);
+        if got < 0 {
+            break;
+        }
         let n = io::count(got, &block);
         if n == 0 {
-            finish(reader, session, line, numbers, links, out);
-            return;
+            return end_input(
+                reader,
+                state,
+                line,
+                numbers,
+                links,
+                table,
+                used,
+                births,
+                order,
+                tree1,
+                tree2,
+                tree3,
+                index,
+                out,
+            );
         }
-        let known = take_block(reader, session, &block[..n], line, numbers, links, out);
+        let known = take_block(
+            reader,
+            state,
+            &block[..n],
+            line,
+            numbers,
+            links,
+            table,
+            used,
+            births,
+            order,
+            tree1,
+            tree2,
+            tree3,
+            index,
+            out,
+        );
         reader = known.reader;
-        session = known.session;
-        if reader.stopped {
-            return;
+        state = known.state;
+        if !known.written {
+            return Ended {
+                reader,
+                state,
+                end: End::NotWritten,
+            };
+        }
+        if collect::over(reader) {
+            return Ended {
+                reader,
+                state,
+                end: End::Over,
+            };
+        }
+    }
+    Ended {
+        reader,
+        state,
+        end: End::NotRead,
+    }
+}
+
+// Says on standard error what failed.
+fn report(end: End) {
+    match end {
+        End::Input => {}
+        End::Over => {}
+        End::NotRead => {
+            io::write_all(2, b"threeways: cannot read standard input\n");
+        }
+        End::NotWritten => {
+            io::write_all(2, b"threeways: cannot write standard output\n");
         }
     }
 }
@@ -87,6 +255,29 @@ fn main() {
     let mut line = [0u8; 6145];
     let mut numbers = [0u16; 3072];
     let mut links = [0u16; 2 * (Session::MAX_LINKS as usize)];
+    let mut table = [0u16; 2 * (Session::MAX_LINKS as usize)];
+    let mut used = [0u8; Session::MAX_LINKS as usize];
+    let mut births = [0u16; Session::MAX_SWITCHES as usize];
+    let mut order = [0u16; Session::MAX_SWITCHES as usize];
+    let mut tree1 = [0u16; Session::MAX_SWITCHES as usize];
+    let mut tree2 = [0u16; Session::MAX_SWITCHES as usize];
+    let mut tree3 = [0u16; Session::MAX_SWITCHES as usize];
+    let mut index = [0u16; network::INDEX_LENGTH];
     let mut out = [0u8; 16384];
-    run(&mut line, &mut numbers, &mut links, &mut out);
+    let ended = run(
+        &mut line,
+        &mut numbers,
+        &mut links,
+        &mut table,
+        &mut used,
+        &mut births,
+        &mut order,
+        &mut tree1,
+        &mut tree2,
+        &mut tree3,
+        &mut index,
+        &mut out,
+    );
+    let end = ended.end;
+    report(end);
 }

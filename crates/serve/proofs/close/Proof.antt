@@ -1,9 +1,25 @@
+use mathlib.Core.Path.{ap, _∙_}
+use mathlib.Core.List.{List, []}
+use Prim.Native.Nat.{ℕ}
+use Rattle.mondschein.specs.Outcome.{Outcome}
 use Rattle.tables.specs.Tables.{closeAnswer}
-use Rattle.replies.specs.Replies.{closed}
+use Rattle.in_place.specs.declared.Session.{Session}
+use Rattle.in_place.specs.declared.State.{State}
+use Rattle.in_place.specs.InPlace.{sessionIn}
+use Rattle.in_place.proofs.Stores.{closed-m}
+use Rattle.replies.specs.Replies.{closed, reply}
+use Rattle.collect.specs.Dialogue.{replyTo}
+use Rattle.collect.proofs.Keeping.{printed-keeps}
 use Rattle.serve.proofs.Replying.{replied-call}
 use borrow.Author.Needs.{needs}
 use Rattle.serve.proofs.close.Statement.{statement}
 use Rattle.serve.proofs.close.Tie as tie
+
+-- the session that the lent arrays hold, with the order and trees 1 and 2 whatever they are
+abbrev held : tie.Start → List ℕ → List ℕ → List ℕ → Session
+held c order tree1 tree2 =
+    let a = c .args in
+    sessionIn (a .st) (a .table .now) (a .used .now) (a .births .now) order tree1 tree2 (a .tree3 .now)
 
 close-requires : tie.Need-close-requires
 close-requires c κs = search needs
@@ -17,14 +33,29 @@ replied-requires c κs = search needs
 same-length : tie.Need-same-length
 same-length c = search needs
 
+same-length-2 : tie.Need-same-length-2
+same-length-2 c = search needs
+
 returns : tie.Need-returns
 returns c =
     let at-reply = c .before .before .before in
-    let at-close = at-reply .before .before .before in
-    let r = at-close .before .before .args .r in
-    replied-call r (λ vs. closed) _ _ _ (closeAnswer (at-close .close .result .answer)) (at-close .close .result .session) (c .replied .ensures) (at-close .close .ensures) (at-reply .reply-to-close .ensures)
+    let at-close = at-reply .before .before .before .before .before in
+    let start = at-close .before .before .before .before .before .before .before in
+    let a = start .args in
+    let m = ap (λ (o : Outcome Session). o .after .m) (at-close .close .ensures [] [] []) ∙ closed-m (held start [] [] []) in (
+      λ order tree1 tree2.
+          replied-call (a .r) (λ vs. closed) _ _ _ (closeAnswer (at-close .close .result .answer)) _ (c .replied .ensures) (at-close .close .ensures order tree1 tree2)
+          (at-reply .reply-to-close .ensures) .0,
+      (printed-keeps (reply (replyTo (λ vs. closed) (closeAnswer (at-close .close .result .answer)))) _ _ _ (at-reply .reply-to-close .ensures), m),
+    )
 
 pub close-spec : {M : Type 1} → statement M
 close-spec =
     tie.close
-    (tie.spec close-requires reply-to-close-requires replied-requires same-length returns)
+    (tie.spec
+    close-requires
+    reply-to-close-requires
+    replied-requires
+    same-length
+    same-length-2
+    returns)

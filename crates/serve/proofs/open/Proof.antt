@@ -1,17 +1,36 @@
-use Prim.Native.Nat.{ℕ, _*_}
 use mathlib.Core.Path.{ap, _∙_}
 use mathlib.Core.List.{List}
+use Prim.Native.Nat.{ℕ, _*_}
+use native.Mathlib.Omega.{arith}
 use Rattle.mondschein.specs.Network.{at}
-use Rattle.network.specs.Load.{networkOf, loadAnswer}
 use Rattle.mondschein.specs.Outcome.{Outcome}
-use Rattle.session.specs.declared.Session.{Session}
-use Rattle.session.specs.Session.{loadedBy}
+use Rattle.network.specs.Load.{networkOf, loadAnswer}
+use Rattle.in_place.specs.declared.Session.{Session}
+use Rattle.in_place.specs.declared.State.{State}
+use Rattle.in_place.specs.InPlace.{sessionIn}
+use Rattle.in_place.specs.Session.{loadedBy}
 use Rattle.replies.specs.Replies.{opened}
 use Rattle.rows.proofs.Prefixes.{least-length, least-take}
 use Rattle.serve.proofs.Replying.{replied-call}
 use borrow.Author.Needs.{needs}
 use Rattle.serve.proofs.open.Statement.{statement}
 use Rattle.serve.proofs.open.Tie as tie
+
+-- the session that the lent arrays hold
+abbrev held : tie.Start → Session
+held c =
+    let a = c .args in
+    sessionIn (a .st) (a .table .now) (a .used .now) (a .births .now) (a .order .now) (a .tree1 .now) (a .tree2 .now) (a .tree3 .now)
+
+-- the way back from a place to the one before it that is cited
+abbrev before-least : tie.After-least → tie.Start
+before-least c = c .before .before .before .before .before .before .before .before .before .before .before .before .before
+
+abbrev before-load : tie.After-load → tie.After-least
+before-load c = c .before .before .before .before .before .before .before .before .before .before
+
+abbrev before-reply : tie.After-reply-to-load → tie.After-load
+before-reply c = c .before .before .before .before .before .before .before .before .before .before .before .before .before .before .before .before .before .before .before
 
 cast-least : tie.Need-cast-least
 cast-least c = search needs
@@ -25,14 +44,16 @@ least-requires c κs = search needs
 slice-aggregate-load : tie.Need-slice-aggregate-load
 slice-aggregate-load c =
     let at-least = c .before in
-    let a = at-least .before .before .before .before .before .args in
+    let a = before-least at-least .args in
     least-length (2 * a .r .kept .count) (a .links .now) (at-least .least .ensures)
 
 load-requires : tie.Need-load-requires
 load-requires c κs = search needs
 
 reply-to-load-requires : tie.Need-reply-to-load-requires
-reply-to-load-requires c κs = search needs
+reply-to-load-requires c κs =
+    let start = before-least (before-load (c .before .before .before .before .before .before .before .before .before .before .before .before .before .before .before .before .before .before)) in
+    omega (arith, start .pre .0)
 
 replied-requires : tie.Need-replied-requires
 replied-requires c κs = search needs
@@ -40,17 +61,43 @@ replied-requires c κs = search needs
 same-length : tie.Need-same-length
 same-length c = search needs
 
+same-length-2 : tie.Need-same-length-2
+same-length-2 c = search needs
+
+same-length-3 : tie.Need-same-length-3
+same-length-3 c = search needs
+
+same-length-4 : tie.Need-same-length-4
+same-length-4 c = search needs
+
+same-length-5 : tie.Need-same-length-5
+same-length-5 c = search needs
+
+same-length-6 : tie.Need-same-length-6
+same-length-6 c = search needs
+
+same-length-7 : tie.Need-same-length-7
+same-length-7 c = search needs
+
+same-length-8 : tie.Need-same-length-8
+same-length-8 c = search needs
+
+same-length-9 : tie.Need-same-length-9
+same-length-9 c = search needs
+
 returns : tie.Need-returns
 returns c =
     let at-reply = c .before .before .before in
-    let at-load = at-reply .before .before .before in
-    let at-least = at-load .before .before in
-    let a = at-least .before .before .before .before .before .args in
+    let at-load = before-reply at-reply in
+    let at-least = before-load at-load in
+    let start = before-least at-least in
+    let a = start .args in
     let d = a .r .kept in
-    let loads : List ℕ → Outcome Session = λ l. loadedBy (a .s) (networkOf (d .n) l (d .root) (d .first) (d .last)) in
-    replied-call (a .r) (λ vs. opened (at vs 0) (at vs 1)) _ _ _ (loadAnswer (at-load .load .result .answer)) (at-load .load .result .session) (c .replied .ensures)
-    (at-load .load .ensures ∙ ap loads (least-take (2 * d .count) (a .links .now) (at-least .least .ensures)))
-    (at-reply .reply-to-load .ensures)
+    let loads : List ℕ → Outcome Session = λ l. loadedBy (held start) (networkOf (d .n) l (d .root) (d .first) (d .last)) in
+    let w = replied-call (a .r) (λ vs. opened (at vs 0) (at vs 1)) _ _ _ (loadAnswer (at-load .load .result .answer)) _ (c .replied .ensures)
+    (at-load .load .ensures .0 ∙ ap loads (least-take (2 * d .count) (a .links .now) (at-least .least .ensures)))
+    (at-reply .reply-to-load .ensures) in
+    (w .0, (w .1, λ i. at-load .load .ensures .1 .keeps i))
 
 pub open-spec : {M : Type 1} → statement M
 open-spec =
@@ -64,4 +111,12 @@ open-spec =
     reply-to-load-requires
     replied-requires
     same-length
+    same-length-2
+    same-length-3
+    same-length-4
+    same-length-5
+    same-length-6
+    same-length-7
+    same-length-8
+    same-length-9
     returns)

@@ -1,6 +1,6 @@
 use mathlib.Core.Path.{ap}
 use Rattle.mondschein.specs.Network.{at}
-use Rattle.judge.specs.declared.Ear.{Ear}
+use Rattle.shape.specs.declared.Ear.{Ear}
 use Rattle.judge.specs.Ear.{earAnswer}
 use Rattle.replies.specs.Replies.{new}
 use Rattle.collect.specs.Dialogue.{replyTo}

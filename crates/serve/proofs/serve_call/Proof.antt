@@ -1,7 +1,31 @@
+use Prim.Native.Nat.{ℕ}
+use Rattle.in_place.specs.declared.Session.{Session}
+use Rattle.in_place.specs.declared.State.{State}
+use Rattle.in_place.specs.InPlace.{sessionIn}
+use Rattle.in_place.proofs.Stores.{index-kept}
 use Rattle.serve.proofs.Replying.{serves-open, serves-ear, serves-close, serves-clear}
 use borrow.Author.Needs.{needs}
 use Rattle.serve.proofs.serve_call.Statement.{statement}
 use Rattle.serve.proofs.serve_call.Tie as tie
+
+-- the session that the lent arrays hold
+abbrev held : tie.Start → Session
+held c =
+    let a = c .args in
+    sessionIn (a .st) (a .table .now) (a .used .now) (a .births .now) (a .order .now) (a .tree1 .now) (a .tree2 .now) (a .tree3 .now)
+
+-- the way back from a place to the one before it that is cited
+abbrev before-open : tie.At-match-keys1 → tie.Start
+before-open c = c .before .before .before .before .before .before .before .before .before .before .before .before
+
+abbrev before-ear : tie.At-match-keys2 → tie.Start
+before-ear c = c .before .before .before .before .before .before .before .before .before .before .before .before
+
+abbrev before-close : tie.At-match-keys3 → tie.Start
+before-close c = c .before .before .before .before .before .before .before .before .before .before .before .before
+
+abbrev before-clear : tie.At-match-keys4 → tie.Start
+before-clear c = c .before .before .before .before .before .before .before .before .before .before .before .before
 
 enum-told : tie.Need-enum-told
 enum-told c = search needs
@@ -30,46 +54,133 @@ clear-requires c κs = search needs
 same-length : tie.Need-same-length
 same-length c = search needs
 
-returns : tie.Need-returns
-returns c =
-    let called = c .before .before in
-    let asked = called .before .before in
-    let a = asked .before .before .before .before .before .args in
-    let k = called .«open» in
-    serves-open (a .numbers .now) (a .r) (a .s) (a .links .now) (k .result .reader) (k .result .session) _ (asked .enum-told .given .1) (k .ensures)
-
 same-length-2 : tie.Need-same-length-2
 same-length-2 c = search needs
-
-returns-2 : tie.Need-returns-2
-returns-2 c =
-    let called = c .before .before in
-    let asked = called .before .before .before in
-    let a = asked .before .before .before .before .before .args in
-    let k = called .offer in
-    serves-ear (a .numbers .now) (a .r) (a .s) (a .links .now) (k .result .reader) (k .result .session) _ _ (asked .call .given .1) (k .ensures)
 
 same-length-3 : tie.Need-same-length-3
 same-length-3 c = search needs
 
-returns-3 : tie.Need-returns-3
-returns-3 c =
-    let called = c .before .before in
-    let asked = called .before .before in
-    let a = asked .before .before .before .before .before .args in
-    let k = called .close in
-    serves-close (a .numbers .now) (a .r) (a .s) (a .links .now) (k .result .reader) (k .result .session) _ (asked .enum-told2 .given .1) (k .ensures)
-
 same-length-4 : tie.Need-same-length-4
 same-length-4 c = search needs
 
+same-length-5 : tie.Need-same-length-5
+same-length-5 c = search needs
+
+same-length-6 : tie.Need-same-length-6
+same-length-6 c = search needs
+
+same-length-7 : tie.Need-same-length-7
+same-length-7 c = search needs
+
+same-length-8 : tie.Need-same-length-8
+same-length-8 c = search needs
+
+same-length-9 : tie.Need-same-length-9
+same-length-9 c = search needs
+
+returns : tie.Need-returns
+returns c =
+    let at-open = c .before .before .before .before .before .before .before .before .before .before .before .before .before .before .before .before .before .before in
+    let at-told = at-open .before .before .before .before .before .before .before .before .before .before in
+    let start = before-open (at-told .before) in
+    let a = start .args in
+    let k = at-open .«open» in
+    (serves-open (a .numbers .now) (a .r) (held start) (a .links .now) (k .result .reader) _ _ (at-told .enum-told .given .1) (k .ensures .0), (k .ensures .1 .0, k .ensures .1 .1 (start .pre .2)))
+
+same-length-10 : tie.Need-same-length-10
+same-length-10 c = search needs
+
+same-length-11 : tie.Need-same-length-11
+same-length-11 c = search needs
+
+same-length-12 : tie.Need-same-length-12
+same-length-12 c = search needs
+
+same-length-13 : tie.Need-same-length-13
+same-length-13 c = search needs
+
+same-length-14 : tie.Need-same-length-14
+same-length-14 c = search needs
+
+same-length-15 : tie.Need-same-length-15
+same-length-15 c = search needs
+
+same-length-16 : tie.Need-same-length-16
+same-length-16 c = search needs
+
+same-length-17 : tie.Need-same-length-17
+same-length-17 c = search needs
+
+returns-2 : tie.Need-returns-2
+returns-2 c =
+    let at-offer = c .before .before .before .before .before .before .before .before .before .before .before .before in
+    let at-told = at-offer .before .before .before .before .before .before .before .before .before .before in
+    let start = before-ear (at-told .before) in
+    let a = start .args in
+    let k = at-offer .offer in
+    (serves-ear (a .numbers .now) (a .r) (held start) (a .links .now) (k .result .reader) _ _ _ (at-told .call .given .1) (k .ensures .0 (a .tree3 .now)), k .ensures .1)
+
+same-length-18 : tie.Need-same-length-18
+same-length-18 c = search needs
+
+same-length-19 : tie.Need-same-length-19
+same-length-19 c = search needs
+
+same-length-20 : tie.Need-same-length-20
+same-length-20 c = search needs
+
+same-length-21 : tie.Need-same-length-21
+same-length-21 c = search needs
+
+same-length-22 : tie.Need-same-length-22
+same-length-22 c = search needs
+
+returns-3 : tie.Need-returns-3
+returns-3 c =
+    let at-close = c .before .before .before .before in
+    let at-told = at-close .before .before .before .before .before .before in
+    let start = before-close (at-told .before) in
+    let a = start .args in
+    let k = at-close .close in (
+      serves-close (a .numbers .now) (a .r) (held start) (a .links .now) (k .result .reader) _ _ (at-told .enum-told2 .given .1) (k .ensures .0 (a .order .now) (a .tree1 .now) (a .tree2 .now)),
+      (k .ensures .1 .0, index-kept (a .st) (k .result .state) (a .table .now) (a .index .now) (k .ensures .1 .1) (start .pre .2)),
+    )
+
+same-length-23 : tie.Need-same-length-23
+same-length-23 c = search needs
+
+same-length-24 : tie.Need-same-length-24
+same-length-24 c = search needs
+
+same-length-25 : tie.Need-same-length-25
+same-length-25 c = search needs
+
+same-length-26 : tie.Need-same-length-26
+same-length-26 c = search needs
+
+same-length-27 : tie.Need-same-length-27
+same-length-27 c = search needs
+
+same-length-28 : tie.Need-same-length-28
+same-length-28 c = search needs
+
+same-length-29 : tie.Need-same-length-29
+same-length-29 c = search needs
+
+same-length-30 : tie.Need-same-length-30
+same-length-30 c = search needs
+
+same-length-31 : tie.Need-same-length-31
+same-length-31 c = search needs
+
 returns-4 : tie.Need-returns-4
 returns-4 c =
-    let called = c .before .before in
-    let asked = called .before .before in
-    let a = asked .before .before .before .before .before .args in
-    let k = called .clear in
-    serves-clear (a .numbers .now) (a .r) (a .s) (a .links .now) (k .result .reader) (k .result .session) _ (asked .enum-told3 .given .1) (k .ensures)
+    let at-clear = c .before .before .before .before .before .before .before .before .before .before .before .before .before .before .before .before .before .before in
+    let at-told = at-clear .before .before .before .before .before .before .before .before .before .before in
+    let start = before-clear (at-told .before) in
+    let a = start .args in
+    let k = at-clear .clear in
+    (serves-clear (a .numbers .now) (a .r) (held start) (a .links .now) (k .result .reader) _ _ (at-told .enum-told3 .given .1) (k .ensures .0), k .ensures .1)
 
 pub serve-call-spec : {M : Type 1} → statement M
 serve-call-spec =
@@ -84,10 +195,37 @@ serve-call-spec =
     enum-told-3
     clear-requires
     same-length
-    returns
     same-length-2
-    returns-2
     same-length-3
-    returns-3
     same-length-4
+    same-length-5
+    same-length-6
+    same-length-7
+    same-length-8
+    same-length-9
+    returns
+    same-length-10
+    same-length-11
+    same-length-12
+    same-length-13
+    same-length-14
+    same-length-15
+    same-length-16
+    same-length-17
+    returns-2
+    same-length-18
+    same-length-19
+    same-length-20
+    same-length-21
+    same-length-22
+    returns-3
+    same-length-23
+    same-length-24
+    same-length-25
+    same-length-26
+    same-length-27
+    same-length-28
+    same-length-29
+    same-length-30
+    same-length-31
     returns-4)

@@ -1,8 +1,14 @@
-use mathlib.Core.Path.{refl}
-use Rattle.mondschein.specs.Network.{at}
+use mathlib.Core.Path.{refl, ap}
+use mathlib.Core.List.{List, []}
+use Prim.Native.Nat.{ℕ}
 use lib.ListN.{take, replicate}
-use Rattle.session.specs.Program.{walkedBy}
-use Rattle.replies.specs.Replies.{walked}
+use Rattle.mondschein.specs.Network.{at}
+use Rattle.mondschein.specs.Outcome.{Outcome}
+use Rattle.in_place.specs.declared.Session.{Session}
+use Rattle.in_place.specs.declared.State.{State}
+use Rattle.in_place.specs.InPlace.{sessionIn}
+use Rattle.in_place.specs.Queries.{walkedBy}
+use Rattle.replies.specs.Replies.{Reply, walked}
 use Rattle.collect.specs.declared.Request.the-variants.{Walk}
 use Rattle.collect.specs.Dialogue.{replyTo, respond}
 use Rattle.collect.specs.Answering.{requested}
@@ -10,6 +16,12 @@ use Rattle.serve.proofs.Replying.{replied-walk, serves-replied}
 use borrow.Author.Needs.{needs}
 use Rattle.serve.proofs.serve_walk.Statement.{statement}
 use Rattle.serve.proofs.serve_walk.Tie as tie
+
+-- the session that the lent rows hold, with the other arrays whatever they are
+abbrev held : tie.Start → List ℕ → List ℕ → List ℕ → List ℕ → Session
+held c table used births order =
+    let a = c .args in
+    sessionIn (a .st) table used births order (a .tree1 .now) (a .tree2 .now) (a .tree3 .now)
 
 slice-aggregate-walk : tie.Need-slice-aggregate-walk
 slice-aggregate-walk c = search needs
@@ -34,11 +46,24 @@ unfolding respond requested
 returns c =
     let at-reply = c .before .before .before in
     let at-walk = at-reply .before .before .before .before in
-    let a = at-walk .before .before .before .args in
-    let o = walkedBy (a .s) (a .switch) (a .tree) (replicate 1024 0) in
-    let w = replyTo (λ vs. walked (a .switch) (a .tree) (take (at vs 0) (o .after))) (o .answer) in
-    let replied = replied-walk (a .r) (a .s) (a .switch) (a .tree) o _ _ _ (c .replied .ensures) (at-walk .walk .ensures .0) (at-walk .walk .ensures .1) (at-reply .reply-to-walk .ensures) in
-    λ numbers links. serves-replied (Walk (a .switch) (a .tree)) numbers (a .r) (a .s) links (c .replied .result) (a .s) _ (a .r .kept) (a .s) w (λ own. refl) replied
+    let start = at-walk .before .before .before .before .before .before in
+    let a = start .args in
+    let o : Session → Outcome (List ℕ) = λ s. walkedBy s (a .switch) (a .tree) (replicate 1024 0) in
+    let w : Session → Reply = λ s. replyTo (λ vs. walked (a .switch) (a .tree) (take (at vs 0) (o s .after))) (o s .answer) in (
+      λ numbers links table used births order.
+          let s = held start table used births order in
+          let e = at-walk .walk .ensures table used births order in
+          serves-replied (Walk (a .switch) (a .tree)) numbers (a .r) s links (c .replied .result) s _ (a .r .kept) s (w s) (λ own. refl)
+          (replied-walk (a .r) s (a .switch) (a .tree) (o s) _ _ _ (c .replied .ensures) (ap (λ (x : Outcome (List ℕ)). x .answer) e) (ap (λ (x : Outcome (List ℕ)). x .after) e)
+          (at-reply .reply-to-walk .ensures) .0),
+      (
+        let s = held start [] [] [] [] in
+            let e = at-walk .walk .ensures [] [] [] [] in
+            replied-walk (a .r) s (a .switch) (a .tree) (o s) _ _ _ (c .replied .ensures) (ap (λ (x : Outcome (List ℕ)). x .answer) e) (ap (λ (x : Outcome (List ℕ)). x .after) e)
+            (at-reply .reply-to-walk .ensures) .1,
+        refl,
+      ),
+    )
 
 pub serve-walk-spec : {M : Type 1} → statement M
 serve-walk-spec =
