@@ -104,6 +104,17 @@ impl Plan {
         let list = list_of(long_ears, &sketch.short_ears(), &sketch.birth, shape, random);
         number_afresh(list, shape, random)
     }
+
+    /// The plan of a list of ears. Its links are those of the ears as they come, after the one from root to first.
+    pub fn of_list(ears: Vec<Vec<u16>>, switches: usize, last: u16) -> Plan {
+        let cycle = &ears[0];
+        let (root, first) = (cycle[0], cycle[cycle.len() - 1]);
+        let mut links = vec![(root, first)];
+        for ear in &ears {
+            links.extend(ear.windows(2).map(|two| (two[0], two[1])));
+        }
+        Plan { site: Site { switches: switches as u16, root, first, last, links }, ears }
+    }
 }
 
 struct Sketch<'a> {
@@ -280,22 +291,21 @@ fn number_afresh(mut list: Vec<Vec<u16>>, shape: &Shape, random: &mut Random) ->
             *s = number[*s as usize];
         }
     }
-    let cycle = &list[0];
-    let (root, first) = (cycle[0], cycle[cycle.len() - 1]);
-    let mut links = vec![(root, first)];
-    for ear in &list {
-        links.extend(ear.windows(2).map(|two| (two[0], two[1])));
-    }
+    let mut plan = Plan::of_list(list, n, number[n - 1]);
     if !shape.tidy {
-        random.shuffle(&mut links);
-        for link in &mut links {
-            if random.chance(50) {
-                *link = (link.1, link.0);
-            }
+        mix(&mut plan.site.links, random);
+    }
+    plan
+}
+
+/// Puts links into any order, and half of them the other way round.
+pub fn mix(links: &mut [(u16, u16)], random: &mut Random) {
+    random.shuffle(links);
+    for link in links {
+        if random.chance(50) {
+            *link = (link.1, link.0);
         }
     }
-    let site = Site { switches: n as u16, root, first, last: number[n - 1], links };
-    Plan { site, ears: list }
 }
 
 #[cfg(test)]
