@@ -4,6 +4,15 @@ use Rattle.in_place.proofs.clear.Statement.{statement}
 use Rattle.in_place.proofs.clear.Tie as tie
 
 -- the way back from a place to the one before it that is cited
+abbrev at-tables : tie.After-empty → tie.After-clear-tables
+at-tables c = c .before .before .before .before .before .before .before .before .before .before .before .before .before
+
+abbrev at-fill : tie.After-empty → tie.After-fill
+at-fill c = at-tables c .before .before .before .before .before .before .before .before .before
+
+abbrev at-index : tie.After-empty → tie.After-make-index
+at-index c = at-fill c .before .before .before .before
+
 abbrev before-index : tie.After-make-index → tie.Start
 before-index c = c .before .before .before .before .before .before .before .before .before .before .before
 
@@ -26,36 +35,33 @@ empty-requires : tie.Need-empty-requires
 empty-requires c κs = search needs
 
 same-length : tie.Need-same-length
-same-length c = search needs
+same-length c = at-fill c .fill .kept .0
 
 same-length-2 : tie.Need-same-length-2
-same-length-2 c = search needs
+same-length-2 c = at-tables c .clear-tables .kept .0
 
 same-length-3 : tie.Need-same-length-3
-same-length-3 c = search needs
+same-length-3 c = at-tables c .clear-tables .kept .1 .0
 
 same-length-4 : tie.Need-same-length-4
-same-length-4 c = search needs
+same-length-4 c = at-tables c .clear-tables .kept .1 .1 .0
 
 same-length-5 : tie.Need-same-length-5
-same-length-5 c = search needs
+same-length-5 c = at-tables c .clear-tables .kept .1 .1 .1 .0
 
 same-length-6 : tie.Need-same-length-6
-same-length-6 c = search needs
+same-length-6 c = at-tables c .clear-tables .kept .1 .1 .1 .1 .0
 
 same-length-7 : tie.Need-same-length-7
-same-length-7 c = search needs
+same-length-7 c = at-tables c .clear-tables .kept .1 .1 .1 .1 .1 .0
 
 same-length-8 : tie.Need-same-length-8
-same-length-8 c = search needs
+same-length-8 c = at-index c .make-index .kept .1 .0
 
 returns : tie.Need-returns
 returns c =
-    let at-tables = c .before .before .before .before .before .before .before .before .before .before .before .before .before in
-    let at-fill = at-tables .before .before .before .before .before .before .before .before .before in
-    let at-index = at-fill .before .before .before .before in
-    let start = before-index at-index in
-    (emptied (start .pre) (at-tables .clear-tables .ensures) (c .empty .ensures) (at-fill .fill .ensures), index-none (c .empty .ensures) (at-index .make-index .ensures) _)
+    let start = before-index (at-index c) in
+    (emptied (start .pre) (at-tables c .clear-tables .ensures) (c .empty .ensures) (at-fill c .fill .ensures), index-none (c .empty .ensures) (at-index c .make-index .ensures) _)
 
 pub clear-spec : {M : Type 1} → statement M
 clear-spec =

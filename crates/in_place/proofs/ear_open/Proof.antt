@@ -19,6 +19,9 @@ before-least c = c .before .before .before .before .before .before .before .befo
 abbrev before-judge : tie.After-judge → tie.After-least
 before-judge c = c .before .before .before .before .before
 
+abbrev at-accept : tie.After-slice-known10 → tie.After-accept
+at-accept c = c .before .before .before .before .before .before .before .before .before .before
+
 -- the session that the lent arrays hold, with tree 3 whatever it is
 abbrev held : tie.Start → List ℕ → Session
 held c tree3 =
@@ -92,24 +95,23 @@ returns c =
     ∙ ap earAnswer (at-answer .answer .given .1))
 
 same-length-3 : tie.Need-same-length-3
-same-length-3 c = search needs
+same-length-3 c = at-accept c .accept .kept .1 .1 .1 .1 .1 .0
 
 same-length-4 : tie.Need-same-length-4
-same-length-4 c = search needs
+same-length-4 c = at-accept c .accept .kept .1 .1 .1 .1 .1 .1 .0
 
 same-length-5 : tie.Need-same-length-5
-same-length-5 c = search needs
+same-length-5 c = at-accept c .accept .kept .1 .1 .1 .1 .1 .1 .1 .0
 
 same-length-6 : tie.Need-same-length-6
-same-length-6 c = search needs
+same-length-6 c = at-accept c .accept .kept .1 .1 .1 .1 .1 .1 .1 .1 .0
 
 same-length-7 : tie.Need-same-length-7
-same-length-7 c = search needs
+same-length-7 c = at-accept c .accept .kept .1 .1 .1 .1 .1 .1 .1 .1 .1 .0
 
 returns-2 : tie.Need-returns-2
 returns-2 c =
-    let at-accept = c .before .before .before .before .before .before .before .before .before .before in
-    let at-answer = at-accept .before .before .before .before .before .before .before in
+    let at-answer = at-accept c .before .before .before .before .before .before .before in
     let at-judge = at-answer .before .before in
     let at-least = before-judge at-judge in
     let start = before-least at-least in
@@ -117,7 +119,7 @@ returns-2 c =
     (sym (verdict-lent (held start tree3) (at-least .least .ensures) (start .args .ear .now))
     ∙ sym (at-judge .judge .ensures)
     ∙ ap earAnswer (at-answer .answer2 .given .1))
-    (ap (withTables (held start tree3)) (at-accept .accept .ensures ∙ after-lent (held start tree3) (at-least .least .ensures) (start .args .ear .now)))
+    (ap (withTables (held start tree3)) (at-accept c .accept .ensures ∙ after-lent (held start tree3) (at-least .least .ensures) (start .args .ear .now)))
 
 pub ear-open-spec : {M : Type 1} → statement M
 ear-open-spec =

@@ -22,6 +22,9 @@ before-open c = c .before .before .before .before .before .before .before .befor
 abbrev before-closed : tie.At-match-keys3 → tie.Start
 before-closed c = c .before .before .before .before .before .before .before .before .before .before
 
+abbrev at-load : tie.After-slice-known16 → tie.After-load-empty
+at-load c = c .before .before .before .before .before .before .before .before .before .before .before .before .before .before .before .before
+
 -- the session that the lent arrays hold
 abbrev held : tie.Start → Session
 held c =
@@ -38,7 +41,7 @@ enum-told : tie.Need-enum-told
 enum-told c = search needs
 
 load-empty-requires : tie.Need-load-empty-requires
-load-empty-requires c κs = search needs
+load-empty-requires c κs = before-empty (c .before .before .before .before .before .before .before .before .before) .pre
 
 enum-told-2 : tie.Need-enum-told-2
 enum-told-2 c = search needs
@@ -53,36 +56,35 @@ load-refused-requires-2 : tie.Need-load-refused-requires-2
 load-refused-requires-2 c κs = search needs
 
 same-length : tie.Need-same-length
-same-length c = search needs
+same-length c = at-load c .load-empty .kept .1 .1 .1 .1 .1 .1 .0
 
 same-length-2 : tie.Need-same-length-2
-same-length-2 c = search needs
+same-length-2 c = at-load c .load-empty .kept .1 .1 .1 .1 .1 .1 .1 .0
 
 same-length-3 : tie.Need-same-length-3
-same-length-3 c = search needs
+same-length-3 c = at-load c .load-empty .kept .1 .1 .1 .1 .1 .1 .1 .1 .0
 
 same-length-4 : tie.Need-same-length-4
-same-length-4 c = search needs
+same-length-4 c = at-load c .load-empty .kept .1 .1 .1 .1 .1 .1 .1 .1 .1 .0
 
 same-length-5 : tie.Need-same-length-5
-same-length-5 c = search needs
+same-length-5 c = at-load c .load-empty .kept .1 .1 .1 .1 .1 .1 .1 .1 .1 .1 .0
 
 same-length-6 : tie.Need-same-length-6
-same-length-6 c = search needs
+same-length-6 c = at-load c .load-empty .kept .1 .1 .1 .1 .1 .1 .1 .1 .1 .1 .1 .0
 
 same-length-7 : tie.Need-same-length-7
-same-length-7 c = search needs
+same-length-7 c = at-load c .load-empty .kept .1 .1 .1 .1 .1 .1 .1 .1 .1 .1 .1 .1 .0
 
 same-length-8 : tie.Need-same-length-8
-same-length-8 c = search needs
+same-length-8 c = at-load c .load-empty .kept .1 .1 .1 .1 .1 .1 .1 .1 .1 .1 .1 .1 .1 .0
 
 returns : tie.Need-returns
 unfolding loadedBy
 returns c =
-    let at-load = c .before .before .before .before .before .before .before .before .before .before .before .before .before .before .before .before in
-    let at-told = at-load .before .before .before .before .before .before .before .before .before in
+    let at-told = at-load c .before .before .before .before .before .before .before .before .before in
     let start = before-empty (at-told .before) in
-    (at-load .load-empty .ensures .0 ∙ ap (settle (held start) _) (sym (on-empty _ _ _ (at-told .enum-told .given .1))), at-load .load-empty .ensures .1)
+    (at-load c .load-empty .ensures .0 ∙ ap (settle (held start) _) (sym (on-empty _ _ _ (at-told .enum-told .given .1))), at-load c .load-empty .ensures .1)
 
 returns-2 : tie.Need-returns-2
 unfolding loadedBy

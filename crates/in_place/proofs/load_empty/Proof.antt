@@ -16,6 +16,9 @@ use Rattle.in_place.proofs.load_empty.Tie as tie
 abbrev before-check : tie.After-check-load → tie.Start
 before-check c = c .before .before .before .before .before .before .before .before .before .before
 
+abbrev at-store : tie.After-slice-known16 → tie.After-store-network
+at-store c = c .before .before .before .before .before .before .before .before .before .before .before .before .before .before .before .before
+
 -- the session that the lent arrays hold
 abbrev held : tie.Start → Session
 held c =
@@ -60,37 +63,36 @@ returns c =
     )
 
 same-length : tie.Need-same-length
-same-length c = search needs
+same-length c = at-store c .store-network .kept .1 .1 .1 .1 .1 .0
 
 same-length-2 : tie.Need-same-length-2
-same-length-2 c = search needs
+same-length-2 c = at-store c .store-network .kept .1 .1 .1 .1 .1 .1 .0
 
 same-length-3 : tie.Need-same-length-3
-same-length-3 c = search needs
+same-length-3 c = at-store c .store-network .kept .1 .1 .1 .1 .1 .1 .1 .0
 
 same-length-4 : tie.Need-same-length-4
-same-length-4 c = search needs
+same-length-4 c = at-store c .store-network .kept .1 .1 .1 .1 .1 .1 .1 .1 .0
 
 same-length-5 : tie.Need-same-length-5
-same-length-5 c = search needs
+same-length-5 c = at-store c .store-network .kept .1 .1 .1 .1 .1 .1 .1 .1 .1 .0
 
 same-length-6 : tie.Need-same-length-6
-same-length-6 c = search needs
+same-length-6 c = at-store c .store-network .kept .1 .1 .1 .1 .1 .1 .1 .1 .1 .1 .0
 
 same-length-7 : tie.Need-same-length-7
-same-length-7 c = search needs
+same-length-7 c = at-store c .store-network .kept .1 .1 .1 .1 .1 .1 .1 .1 .1 .1 .1 .0
 
 same-length-8 : tie.Need-same-length-8
-same-length-8 c = search needs
+same-length-8 c = at-store c .store-network .kept .1 .1 .1 .1 .1 .1 .1 .1 .1 .1 .1 .1 .0
 
 returns-2 : tie.Need-returns-2
 returns-2 c =
-    let at-store = c .before .before .before .before .before .before .before .before .before .before .before .before .before .before .before .before in
-    let at-answer = at-store .before .before .before .before .before .before .before .before .before .before in
+    let at-answer = at-store c .before .before .before .before .before .before .before .before .before .before in
     let at-check = at-answer .before .before in
     let start = before-check at-check in (
-      after-given (held start) _ (sym (at-check .check-load .ensures) ∙ ap loadAnswer (at-answer .answer2 .given .1)) (at-store .store-network .ensures .0),
-      index-loaded (at-store .store-network .ensures .1),
+      after-given (held start) _ (sym (at-check .check-load .ensures) ∙ ap loadAnswer (at-answer .answer2 .given .1)) (at-store c .store-network .ensures .0),
+      index-loaded (at-store c .store-network .ensures .1),
     )
 
 pub load-empty-spec : {M : Type 1} → statement M

@@ -4,6 +4,15 @@ use Rattle.in_place.proofs.store_network.Statement.{statement}
 use Rattle.in_place.proofs.store_network.Tie as tie
 
 -- the way back from a place to the one before it that is cited
+abbrev at-tables : tie.After-slice-known16 → tie.After-clear-tables
+at-tables c = c .before .before .before .before .before .before .before .before .before .before .before .before
+
+abbrev at-pad : tie.After-slice-known16 → tie.After-pad
+at-pad c = at-tables c .before .before .before .before .before .before .before .before .before
+
+abbrev at-index : tie.After-slice-known16 → tie.After-make-index
+at-index c = at-pad c .before .before .before .before
+
 abbrev before-index : tie.After-make-index → tie.Start
 before-index c = c .before .before .before .before .before .before .before .before .before .before .before
 
@@ -20,38 +29,35 @@ cast-t34 : tie.Need-cast-t34
 cast-t34 c = search needs
 
 same-length : tie.Need-same-length
-same-length c = search needs
+same-length c = at-pad c .pad .kept .0
 
 same-length-2 : tie.Need-same-length-2
-same-length-2 c = search needs
+same-length-2 c = at-tables c .clear-tables .kept .0
 
 same-length-3 : tie.Need-same-length-3
-same-length-3 c = search needs
+same-length-3 c = at-tables c .clear-tables .kept .1 .0
 
 same-length-4 : tie.Need-same-length-4
-same-length-4 c = search needs
+same-length-4 c = at-tables c .clear-tables .kept .1 .1 .0
 
 same-length-5 : tie.Need-same-length-5
-same-length-5 c = search needs
+same-length-5 c = at-tables c .clear-tables .kept .1 .1 .1 .0
 
 same-length-6 : tie.Need-same-length-6
-same-length-6 c = search needs
+same-length-6 c = at-tables c .clear-tables .kept .1 .1 .1 .1 .0
 
 same-length-7 : tie.Need-same-length-7
-same-length-7 c = search needs
+same-length-7 c = at-tables c .clear-tables .kept .1 .1 .1 .1 .1 .0
 
 same-length-8 : tie.Need-same-length-8
-same-length-8 c = search needs
+same-length-8 c = at-index c .make-index .kept .1 .0
 
 returns : tie.Need-returns
 returns c =
-    let at-tables = c .before .before .before .before .before .before .before .before .before .before .before .before in
-    let at-pad = at-tables .before .before .before .before .before .before .before .before .before in
-    let at-index = at-pad .before .before .before .before in
-    let start = before-index at-index in
+    let start = before-index (at-index c) in
     let a = start .args in (
-      stored (start .pre .1) (at-tables .clear-tables .ensures) (a .n) (a .links .now) (a .root) (a .first) (a .last) (at-pad .pad .ensures),
-      index-stored (a .n) (a .links .now) (a .root) (a .first) (a .last) _ (start .pre .0) (at-pad .pad .ensures) (at-index .make-index .ensures),
+      stored (start .pre .1) (at-tables c .clear-tables .ensures) (a .n) (a .links .now) (a .root) (a .first) (a .last) (at-pad c .pad .ensures),
+      index-stored (a .n) (a .links .now) (a .root) (a .first) (a .last) _ (start .pre .0) (at-pad c .pad .ensures) (at-index c .make-index .ensures),
     )
 
 pub store-network-spec : {M : Type 1} → statement M
