@@ -4,10 +4,10 @@ use Rattle.network.specs.declared.Load.{Load}
 use Rattle.network.specs.Load.{loadAnswer}
 use Rattle.replies.specs.Replies.{opened}
 use Rattle.collect.specs.Dialogue.{replyTo}
-use Rattle.serve.proofs.Replying.{printed-as}
+use Rattle.calls.proofs.Replying.{printed-as}
 use borrow.Author.Needs.{needs}
-use Rattle.serve.proofs.reply_to_load.Statement.{statement}
-use Rattle.serve.proofs.reply_to_load.Tie as tie
+use Rattle.calls.proofs.reply_to_load.Statement.{statement}
+use Rattle.calls.proofs.reply_to_load.Tie as tie
 
 enum-known-answer : tie.Need-enum-known-answer
 enum-known-answer c = search needs

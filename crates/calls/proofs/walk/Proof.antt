@@ -12,10 +12,10 @@ use Rattle.replies.specs.Replies.{Reply, walked}
 use Rattle.collect.specs.declared.Request.the-variants.{Walk}
 use Rattle.collect.specs.Dialogue.{replyTo, respond}
 use Rattle.collect.specs.Answering.{requested}
-use Rattle.serve.proofs.Replying.{replied-walk, serves-replied}
+use Rattle.calls.proofs.Replying.{replied-walk, serves-replied}
 use borrow.Author.Needs.{needs}
-use Rattle.serve.proofs.serve_walk.Statement.{statement}
-use Rattle.serve.proofs.serve_walk.Tie as tie
+use Rattle.calls.proofs.walk.Statement.{statement}
+use Rattle.calls.proofs.walk.Tie as tie
 
 -- the session that the lent rows hold, with the other arrays whatever they are
 abbrev held : tie.Start → List ℕ → List ℕ → List ℕ → List ℕ → Session
@@ -65,8 +65,8 @@ returns c =
       ),
     )
 
-pub serve-walk-spec : {M : Type 1} → statement M
-serve-walk-spec =
+pub walk-spec : {M : Type 1} → statement M
+walk-spec =
     tie.close
     (tie.spec
     slice-aggregate-walk

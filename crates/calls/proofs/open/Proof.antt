@@ -11,10 +11,10 @@ use Rattle.in_place.specs.InPlace.{sessionIn}
 use Rattle.in_place.specs.Session.{loadedBy}
 use Rattle.replies.specs.Replies.{opened}
 use Rattle.rows.proofs.Prefixes.{least-length, least-take}
-use Rattle.serve.proofs.Replying.{replied-call}
+use Rattle.calls.proofs.Replying.{replied-call}
 use borrow.Author.Needs.{needs}
-use Rattle.serve.proofs.open.Statement.{statement}
-use Rattle.serve.proofs.open.Tie as tie
+use Rattle.calls.proofs.open.Statement.{statement}
+use Rattle.calls.proofs.open.Tie as tie
 
 -- the session that the lent arrays hold
 abbrev held : tie.Start → Session
@@ -48,7 +48,7 @@ slice-aggregate-load c =
     least-length (2 * a .r .kept .count) (a .links .now) (at-least .least .ensures)
 
 load-requires : tie.Need-load-requires
-load-requires c κs = search needs
+load-requires c κs = before-least (c .before .before .before .before .before .before .before .before .before) .pre .1
 
 reply-to-load-requires : tie.Need-reply-to-load-requires
 reply-to-load-requires c κs =
@@ -59,31 +59,31 @@ replied-requires : tie.Need-replied-requires
 replied-requires c κs = search needs
 
 same-length : tie.Need-same-length
-same-length c = search needs
+same-length c = before-reply (c .before .before .before) .load .kept .1 .1 .1 .1 .1 .1 .0
 
 same-length-2 : tie.Need-same-length-2
-same-length-2 c = search needs
+same-length-2 c = before-reply (c .before .before .before) .load .kept .1 .1 .1 .1 .1 .1 .1 .0
 
 same-length-3 : tie.Need-same-length-3
-same-length-3 c = search needs
+same-length-3 c = before-reply (c .before .before .before) .load .kept .1 .1 .1 .1 .1 .1 .1 .1 .0
 
 same-length-4 : tie.Need-same-length-4
-same-length-4 c = search needs
+same-length-4 c = before-reply (c .before .before .before) .load .kept .1 .1 .1 .1 .1 .1 .1 .1 .1 .0
 
 same-length-5 : tie.Need-same-length-5
-same-length-5 c = search needs
+same-length-5 c = before-reply (c .before .before .before) .load .kept .1 .1 .1 .1 .1 .1 .1 .1 .1 .1 .0
 
 same-length-6 : tie.Need-same-length-6
-same-length-6 c = search needs
+same-length-6 c = before-reply (c .before .before .before) .load .kept .1 .1 .1 .1 .1 .1 .1 .1 .1 .1 .1 .0
 
 same-length-7 : tie.Need-same-length-7
-same-length-7 c = search needs
+same-length-7 c = before-reply (c .before .before .before) .load .kept .1 .1 .1 .1 .1 .1 .1 .1 .1 .1 .1 .1 .0
 
 same-length-8 : tie.Need-same-length-8
-same-length-8 c = search needs
+same-length-8 c = before-reply (c .before .before .before) .load .kept .1 .1 .1 .1 .1 .1 .1 .1 .1 .1 .1 .1 .1 .0
 
 same-length-9 : tie.Need-same-length-9
-same-length-9 c = search needs
+same-length-9 c = c .before .before .before .reply-to-load .kept .1 .0
 
 returns : tie.Need-returns
 returns c =

@@ -4,10 +4,10 @@ use Rattle.shape.specs.declared.Ear.{Ear}
 use Rattle.judge.specs.Ear.{earAnswer}
 use Rattle.replies.specs.Replies.{new}
 use Rattle.collect.specs.Dialogue.{replyTo}
-use Rattle.serve.proofs.Replying.{printed-as}
+use Rattle.calls.proofs.Replying.{printed-as}
 use borrow.Author.Needs.{needs}
-use Rattle.serve.proofs.reply_to_ear.Statement.{statement}
-use Rattle.serve.proofs.reply_to_ear.Tie as tie
+use Rattle.calls.proofs.reply_to_ear.Statement.{statement}
+use Rattle.calls.proofs.reply_to_ear.Tie as tie
 
 enum-known-answer : tie.Need-enum-known-answer
 enum-known-answer c = search needs

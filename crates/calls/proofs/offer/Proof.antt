@@ -14,10 +14,10 @@ use Rattle.replies.specs.Replies.{new, reply}
 use Rattle.collect.specs.Dialogue.{replyTo}
 use Rattle.collect.proofs.Keeping.{printed-keeps}
 use Rattle.rows.proofs.Prefixes.{least-length, least-take}
-use Rattle.serve.proofs.Replying.{replied-call}
+use Rattle.calls.proofs.Replying.{replied-call}
 use borrow.Author.Needs.{needs}
-use Rattle.serve.proofs.offer.Statement.{statement}
-use Rattle.serve.proofs.offer.Tie as tie
+use Rattle.calls.proofs.offer.Statement.{statement}
+use Rattle.calls.proofs.offer.Tie as tie
 
 -- the session that the lent arrays hold, with tree 3 whatever it is
 abbrev held : tie.Start → List ℕ → Session
@@ -45,7 +45,9 @@ slice-aggregate-ear c =
     least-length (a .count) (a .numbers .now) (at-least .least .ensures)
 
 ear-requires : tie.Need-ear-requires
-ear-requires c κs = search needs
+ear-requires c κs =
+    let start = before-least (c .before .before .before .before .before .before) in
+    (start .pre .1, start .pre .2)
 
 reply-to-ear-requires : tie.Need-reply-to-ear-requires
 reply-to-ear-requires c κs =
@@ -56,22 +58,22 @@ replied-requires : tie.Need-replied-requires
 replied-requires c κs = search needs
 
 same-length : tie.Need-same-length
-same-length c = search needs
+same-length c = before-reply (c .before .before .before) .ear .kept .1 .1 .1 .0
 
 same-length-2 : tie.Need-same-length-2
-same-length-2 c = search needs
+same-length-2 c = before-reply (c .before .before .before) .ear .kept .1 .1 .1 .1 .0
 
 same-length-3 : tie.Need-same-length-3
-same-length-3 c = search needs
+same-length-3 c = before-reply (c .before .before .before) .ear .kept .1 .1 .1 .1 .1 .0
 
 same-length-4 : tie.Need-same-length-4
-same-length-4 c = search needs
+same-length-4 c = before-reply (c .before .before .before) .ear .kept .1 .1 .1 .1 .1 .1 .0
 
 same-length-5 : tie.Need-same-length-5
-same-length-5 c = search needs
+same-length-5 c = before-reply (c .before .before .before) .ear .kept .1 .1 .1 .1 .1 .1 .1 .0
 
 same-length-6 : tie.Need-same-length-6
-same-length-6 c = search needs
+same-length-6 c = c .before .before .before .reply-to-ear .kept .1 .0
 
 returns : tie.Need-returns
 returns c =

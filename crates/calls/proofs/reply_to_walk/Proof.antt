@@ -8,10 +8,10 @@ use Rattle.walks.specs.Walks.{walkAnswer}
 use Rattle.replies.specs.Replies.{Reply, walked}
 use Rattle.collect.specs.Dialogue.{replyTo}
 use Rattle.rows.proofs.Prefixes.{least-length, least-take}
-use Rattle.serve.proofs.Replying.{printed-as}
+use Rattle.calls.proofs.Replying.{printed-as}
 use borrow.Author.Needs.{needs}
-use Rattle.serve.proofs.reply_to_walk.Statement.{statement}
-use Rattle.serve.proofs.reply_to_walk.Tie as tie
+use Rattle.calls.proofs.reply_to_walk.Statement.{statement}
+use Rattle.calls.proofs.reply_to_walk.Tie as tie
 
 enum-known-answer : tie.Need-enum-known-answer
 enum-known-answer c = search needs

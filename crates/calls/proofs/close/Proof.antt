@@ -10,10 +10,10 @@ use Rattle.in_place.proofs.Stores.{closed-m}
 use Rattle.replies.specs.Replies.{closed, reply}
 use Rattle.collect.specs.Dialogue.{replyTo}
 use Rattle.collect.proofs.Keeping.{printed-keeps}
-use Rattle.serve.proofs.Replying.{replied-call}
+use Rattle.calls.proofs.Replying.{replied-call}
 use borrow.Author.Needs.{needs}
-use Rattle.serve.proofs.close.Statement.{statement}
-use Rattle.serve.proofs.close.Tie as tie
+use Rattle.calls.proofs.close.Statement.{statement}
+use Rattle.calls.proofs.close.Tie as tie
 
 -- the session that the lent arrays hold, with the order and trees 1 and 2 whatever they are
 abbrev held : tie.Start → List ℕ → List ℕ → List ℕ → Session

@@ -3,10 +3,10 @@ use Rattle.tables.specs.declared.Close.{Close}
 use Rattle.tables.specs.Tables.{closeAnswer}
 use Rattle.replies.specs.Replies.{closed}
 use Rattle.collect.specs.Dialogue.{replyTo}
-use Rattle.serve.proofs.Replying.{printed-as}
+use Rattle.calls.proofs.Replying.{printed-as}
 use borrow.Author.Needs.{needs}
-use Rattle.serve.proofs.reply_to_close.Statement.{statement}
-use Rattle.serve.proofs.reply_to_close.Tie as tie
+use Rattle.calls.proofs.reply_to_close.Statement.{statement}
+use Rattle.calls.proofs.reply_to_close.Tie as tie
 
 enum-told : tie.Need-enum-told
 enum-told c = search needs

@@ -4,11 +4,11 @@ use Rattle.in_place.specs.declared.Session.{Session}
 use Rattle.replies.specs.Replies.{cleared}
 use Rattle.collect.specs.declared.Kept.{Kept}
 use Rattle.collect.specs.declared.Reader.{Reader}
-use Rattle.serve.specs.Serving.{repliedBy}
-use Rattle.serve.proofs.Replying.{replied-with}
+use Rattle.calls.specs.Calling.{repliedBy}
+use Rattle.calls.proofs.Replying.{replied-with}
 use borrow.Author.Needs.{needs}
-use Rattle.serve.proofs.clear.Statement.{statement}
-use Rattle.serve.proofs.clear.Tie as tie
+use Rattle.calls.proofs.clear.Statement.{statement}
+use Rattle.calls.proofs.clear.Tie as tie
 
 -- the way back from a place to the one before it that is cited
 abbrev before-clear : tie.After-clear → tie.Start
@@ -18,7 +18,7 @@ abbrev before-write : tie.After-write-cleared → tie.After-clear
 before-write c = c .before .before .before .before .before .before .before .before .before .before .before .before .before .before .before .before .before .before
 
 clear-requires : tie.Need-clear-requires
-clear-requires c κs = search needs
+clear-requires c κs = c .before .before .before .before .before .before .before .before .before .before .before .before .before .before .before .before .before .pre .1
 
 write-cleared-requires : tie.Need-write-cleared-requires
 write-cleared-requires c κs =
@@ -32,31 +32,31 @@ replied-requires : tie.Need-replied-requires
 replied-requires c κs = search needs
 
 same-length : tie.Need-same-length
-same-length c = search needs
+same-length c = before-write (c .before .before .before .before) .clear .kept .0
 
 same-length-2 : tie.Need-same-length-2
-same-length-2 c = search needs
+same-length-2 c = before-write (c .before .before .before .before) .clear .kept .1 .0
 
 same-length-3 : tie.Need-same-length-3
-same-length-3 c = search needs
+same-length-3 c = before-write (c .before .before .before .before) .clear .kept .1 .1 .0
 
 same-length-4 : tie.Need-same-length-4
-same-length-4 c = search needs
+same-length-4 c = before-write (c .before .before .before .before) .clear .kept .1 .1 .1 .0
 
 same-length-5 : tie.Need-same-length-5
-same-length-5 c = search needs
+same-length-5 c = before-write (c .before .before .before .before) .clear .kept .1 .1 .1 .1 .0
 
 same-length-6 : tie.Need-same-length-6
-same-length-6 c = search needs
+same-length-6 c = before-write (c .before .before .before .before) .clear .kept .1 .1 .1 .1 .1 .0
 
 same-length-7 : tie.Need-same-length-7
-same-length-7 c = search needs
+same-length-7 c = before-write (c .before .before .before .before) .clear .kept .1 .1 .1 .1 .1 .1 .0
 
 same-length-8 : tie.Need-same-length-8
-same-length-8 c = search needs
+same-length-8 c = before-write (c .before .before .before .before) .clear .kept .1 .1 .1 .1 .1 .1 .1 .0
 
 same-length-9 : tie.Need-same-length-9
-same-length-9 c = search needs
+same-length-9 c = c .before .before .before .before .write-cleared .kept .0
 
 returns : tie.Need-returns
 returns c =
