@@ -1,0 +1,164 @@
+-- What a function for C gives back and leaves, by what the call in place answered: refused for its arrays, refused by the call, or granted.
+-- The session that the call left, and the numbers that were written, make the memory after it.
+use mathlib.Core.Path.{_≡_, refl, sym, ap, _∙_, subst}
+use mathlib.Core.Bool.{Bool, true, false, not, cond}
+use mathlib.Core.List.{List}
+use Prim.Native.Nat.{ℕ}
+use native.Mathlib.Omega.{arith}
+use lib.Dec.{eqb}
+use lib.ListN.{length}
+use borrow.Author.Tests.{eqb-true, not-false}
+use Rattle.mondschein.specs.Network.{Network}
+use Rattle.mondschein.specs.Judge.{Answer, given, refused}
+use Rattle.mondschein.specs.Outcome.{Outcome, settle}
+use Rattle.mondschein.proofs.Logic.{or-false}
+use Rattle.mondschein.proofs.Outcomes.{never, settle-refused, settle-given}
+use Rattle.tables.specs.Tables.{afterEar, tree3Of}
+use Rattle.in_place.specs.declared.Stage.{Stage}
+use Rattle.in_place.specs.declared.Stage.the-variants.{Empty, Open, Closed}
+use Rattle.in_place.specs.declared.Session.{Session}
+use Rattle.in_place.specs.Session.{networkIn, tablesIn, withTables, closedWith, byStage, loadedBy, offeredBy, closedBy}
+use Rattle.in_place.specs.InPlace.{SizedAs}
+use Rattle.memory.specs.declared.Refusal.{Refusal}
+use Rattle.memory.specs.Memory.{Numbers, numbersBy, Memory, memoryBy, stageOf, stageNumber, sessionAt, memoryOf, inMemory, wrongLengths, sized, refusalBy, refusalOf, outputOf, Gives}
+
+-- by the answer
+module _ {A : Type 0} (o : Outcome A) (out : ℕ) {r : Refusal} {after : A} where
+  pub refusing : {num place : ℕ} → o .answer ≡ refused num place → r ≡ refusalBy num place → after ≡ o .after → Gives o out r after out
+  unfolding refusalOf outputOf
+  refusing q p e = record { returns = record { refusal = p ∙ sym (ap refusalOf q); left = e }; output = sym (ap (outputOf out) q) }
+
+  pub granting : {vs : List ℕ} → o .answer ≡ given vs → r ≡ refusalBy 0 0 → after ≡ o .after → Gives o out r after (outputOf out (given vs))
+  unfolding refusalOf
+  granting q p e = record { returns = record { refusal = p ∙ sym (ap refusalOf q); left = e }; output = sym (ap (outputOf out) q) }
+
+-- by the lengths of the arrays: 255, and nothing has changed; or the call's outcome
+module _ {A : Type 0} (old : A) (o : Outcome A) (out : ℕ) {r : Refusal} {wrong : Bool} where
+  pub lengths-wrong : wrong ≡ true → r ≡ refusalBy 255 0 → Gives (sized wrong old o) out r old out
+  unfolding sized
+  lengths-wrong q p = subst (λ (x : Bool). Gives (sized x old o) out r old out) (sym q) (refusing (sized true old o) out refl p refl)
+
+  pub lengths-right : {after : A} {new : ℕ} → wrong ≡ false → Gives o out r after new → Gives (sized wrong old o) out r after new
+  unfolding sized
+  lengths-right {after} {new} q g = subst (λ (x : Bool). Gives (sized x old o) out r after new) (sym q) g
+
+-- a refusal leaves the session
+abbrev pub Leaves : Session → Outcome Session → Type 0
+Leaves s o = (num place : ℕ) → o .answer ≡ refused num place → o .after ≡ s
+
+settle-leaves : (s next : Session) (a : Answer) → Leaves s (settle s next a)
+unfolding settle
+settle-leaves s next a num place q = ap (λ (o : Outcome Session). o .after) (settle-refused s next q)
+
+pub load-leaves : (s : Session) (net : Network) → Leaves s (loadedBy s net)
+unfolding loadedBy
+load-leaves s net = settle-leaves s _ _
+
+pub ear-leaves : (s : Session) (e : List ℕ) → Leaves s (offeredBy s e)
+unfolding offeredBy
+ear-leaves s e = settle-leaves s _ _
+
+pub close-leaves : (s : Session) → Leaves s (closedBy s)
+unfolding closedBy
+close-leaves s = settle-leaves s _ _
+
+-- the memory with these numbers and the arrays of a session
+abbrev pub memoryWith : Numbers → Session → Memory
+memoryWith k s = memoryBy k (s .links) (s .used) (s .births) (s .order) (s .tree1) (s .tree2) (s .tree3)
+
+-- what a call that writes the session leaves of the memory, by its outcome o: the session that it left is s
+module _ (mem : Memory) (o : Outcome Session) (s : Session) (out : ℕ) {r : Refusal} where
+  -- it refused: the numbers were not written, and the arrays are as they were
+  pub refusing-call : Leaves (sessionAt mem) o → {num place : ℕ} → record { answer = refused num place; after = s } ≡ o → r ≡ refusalBy num place
+      → Gives (inMemory mem o) out r (memoryWith (mem .numbers) s) out
+  unfolding inMemory settle
+  refusing-call leaves {num} {place} q p =
+      let told : o .answer ≡ refused num place = sym (ap (λ (x : Outcome Session). x .answer) q) in
+      let kept : s ≡ sessionAt mem = ap (λ (x : Outcome Session). x .after) q ∙ leaves num place told in
+      refusing (inMemory mem o) out told p
+      (ap (memoryWith (mem .numbers)) kept ∙ sym (ap (λ (x : Outcome Memory). x .after) (settle-refused mem (memoryOf (o .after)) told)))
+
+  -- it succeeded: the numbers of the session were written
+  pub granting-call : {vs : List ℕ} → record { answer = given vs; after = s } ≡ o → r ≡ refusalBy 0 0 → {k : Numbers} → k ≡ memoryOf s .numbers
+      → Gives (inMemory mem o) out r (memoryWith k s) (outputOf out (given vs))
+  unfolding inMemory settle
+  granting-call {vs} q p e =
+      let told : o .answer ≡ given vs = sym (ap (λ (x : Outcome Session). x .answer) q) in
+      granting (inMemory mem o) out told p
+      (ap (λ (k : Numbers). memoryWith k s) e
+      ∙ ap memoryOf (ap (λ (x : Outcome Session). x .after) q)
+      ∙ sym (ap (λ (x : Outcome Memory). x .after) (settle-given mem (memoryOf (o .after)) told)))
+
+-- a stage that is open has the number 1
+open-number : (k : ℕ) → stageOf k ≡ Open → k ≡ 1
+unfolding stageOf stageNumber
+open-number k q = go (eqb k 1) refl (eqb k 2) (ap stageNumber q)
+  where
+    go : (a : Bool) → eqb k 1 ≡ a → (b : Bool) → stageNumber (cond a Open (cond b Closed Empty)) ≡ 1 → k ≡ 1
+    go true e b h = eqb-true _ _ e
+    go false e true h = absurd (omega (arith, h))
+    go false e false h = absurd (omega (arith, h))
+
+-- an ear is accepted on an open session
+given-open : (stage : Stage) (a : Answer) {vs : List ℕ} → byStage stage (refused 19 0) a (refused 22 0) ≡ given vs → stage ≡ Open
+unfolding byStage
+given-open Empty a q = never q
+given-open Open a q = refl
+given-open Closed a q = never q
+
+-- the numbers after a call that succeeded: an ear leaves all but the counts of long ears and of switches born, close all but the stage
+module _ (mem : Memory) (s′ : Session) {vs : List ℕ} where
+  pub ear-numbers : (e : List ℕ) → record { answer = given vs; after = s′ } ≡ offeredBy (sessionAt mem) e
+      → (let k = mem .numbers in numbersBy (k .stage) (k .n) (k .m) (k .root) (k .first) (k .last) (s′ .longs) (s′ .born)) ≡ memoryOf s′ .numbers
+  unfolding offeredBy settle stageNumber
+  ear-numbers e q =
+      let k = mem .numbers in
+      let s = sessionAt mem in
+      let w = withTables s (afterEar (networkIn s) e (tablesIn s)) in
+      let told : offeredBy s e .answer ≡ given vs = sym (ap (λ (x : Outcome Session). x .answer) q) in
+      let after : s′ ≡ w = ap (λ (x : Outcome Session). x .after) q ∙ ap (λ (x : Outcome Session). x .after) (settle-given s w told) in
+      let isOpen : stageOf (k .stage) ≡ Open = given-open (s .stage) _ told in
+      ap (λ (x : Session). numbersBy (k .stage) (k .n) (k .m) (k .root) (k .first) (k .last) (x .longs) (x .born)) after
+      ∙ ap (λ (j : ℕ). numbersBy j (k .n) (k .m) (k .root) (k .first) (k .last) (w .longs) (w .born)) (open-number (k .stage) isOpen ∙ sym (ap stageNumber isOpen))
+      ∙ sym (ap (λ (x : Session). memoryOf x .numbers) after)
+
+  pub close-numbers : record { answer = given vs; after = s′ } ≡ closedBy (sessionAt mem)
+      → (let k = mem .numbers in numbersBy 2 (k .n) (k .m) (k .root) (k .first) (k .last) (k .longs) (k .born)) ≡ memoryOf s′ .numbers
+  unfolding closedBy settle stageNumber
+  close-numbers q =
+      let s = sessionAt mem in
+      let w = closedWith s (tree3Of (networkIn s) (s .births) (s .tree3)) in
+      let told : closedBy s .answer ≡ given vs = sym (ap (λ (x : Outcome Session). x .answer) q) in
+      let after : s′ ≡ w = ap (λ (x : Outcome Session). x .after) q ∙ ap (λ (x : Outcome Session). x .after) (settle-given s w told) in
+      sym (ap (λ (x : Session). memoryOf x .numbers) after)
+
+-- the lengths of what is lent to close, to parent and walk, and to ear, beside those of the arrays that are not
+pub lengths-close : (l u b o p q t : ℕ) → o ≡ 1024 → p ≡ 1024 → q ≡ 1024 → wrongLengths l u b o p q t ≡ wrongLengths l u b 1024 1024 1024 t
+lengths-close l u b o p q t x y z = simp (x, y, z)
+
+pub lengths-trees : (l u b o p q t : ℕ) → l ≡ 8192 → u ≡ 4096 → b ≡ 1024 → o ≡ 1024 → wrongLengths l u b o p q t ≡ wrongLengths 8192 4096 1024 1024 p q t
+lengths-trees l u b o p q t x y z w = simp (x, y, z, w)
+
+pub lengths-ear : (l u b o p q t : ℕ) → t ≡ 1024 → wrongLengths l u b o p q t ≡ wrongLengths l u b o p q 1024
+lengths-ear l u b o p q t x = simp x
+
+-- lengths that are not wrong are the struct's
+pub right : (l u b o p q t : ℕ) → wrongLengths l u b o p q t ≡ false
+    → (l ≡ 8192) × (u ≡ 4096) × (b ≡ 1024) × (o ≡ 1024) × (p ≡ 1024) × (q ≡ 1024) × (t ≡ 1024)
+unfolding wrongLengths
+right l u b o p q t h =
+    let (l′, h1) = or-false _ _ h in
+    let (u′, h2) = or-false _ _ h1 in
+    let (b′, h3) = or-false _ _ h2 in
+    let (o′, h4) = or-false _ _ h3 in
+    let (p′, h5) = or-false _ _ h4 in
+    let (q′, t′) = or-false _ _ h5 in
+    (is l _ l′, is u _ u′, is b _ b′, is o _ o′, is p _ p′, is q _ q′, is t _ t′)
+  where
+    is : (a k : ℕ) → not (eqb a k) ≡ false → a ≡ k
+    is a k e = eqb-true a k (not-false _ e)
+
+pub sizes : (l u b o p q t : List ℕ) → wrongLengths (length l) (length u) (length b) (length o) (length p) (length q) (length t) ≡ false → SizedAs l u b o p q t
+sizes l u b o p q t h =
+    let (l′, u′, b′, o′, p′, q′, t′) = right _ _ _ _ _ _ _ h in
+    record { links = l′; used = u′; births = b′; order = o′; tree1 = p′; tree2 = q′; tree3 = t′ }
