@@ -1,0 +1,48 @@
+-- What each function for C promises, for any memory of struct threeways_session and any arguments: what it gives back and what it leaves are
+-- those of the same call of the program that the memory is (Rattle.memory.specs.Program), and 255 for arrays of other lengths.
+use mathlib.Core.Path.{_≡_}
+use mathlib.Core.List.{List}
+use Prim.Native.Nat.{ℕ}
+use lib.ListN.{length}
+use Rattle.mondschein.specs.Network.{Network}
+use Rattle.mondschein.specs.Outcome.{Outcome}
+use Rattle.machine.specs.Machine.{Call, load, ear, close, clear}
+use Rattle.in_place.specs.Queries.{parentBy, walkedBy}
+use Rattle.memory.specs.declared.Refusal.{Refusal}
+use Rattle.memory.specs.Memory.{Memory, sessionAt, wrongIn, sized, Returns, Gives}
+use Rattle.memory.specs.Program.{calledIn}
+
+-- what a call that writes the session does to the memory: 255, or the call
+abbrev pub calledWith : Memory → Call → Outcome Memory
+calledWith mem c = sized (wrongIn mem) mem (calledIn mem c)
+
+-- clear and load
+abbrev pub Clears : Memory → Refusal → Memory → Type 0
+Clears mem r mem′ = Returns (calledWith mem clear) r mem′
+
+abbrev pub Loads : Memory → Network → Refusal → Memory → Type 0
+Loads mem net r mem′ = Returns (calledWith mem (load net)) r mem′
+
+-- a row by switch
+abbrev pub Row : List ℕ → Type 0
+Row l = length l ≡ 1024
+
+-- ear, whatever tree 3 holds; the output is the number of new switches
+abbrev pub Offers : (List ℕ → Memory) → List ℕ → ℕ → Refusal → (List ℕ → Memory) → ℕ → Type 0
+Offers mem e old r mem′ new = (tree3 : List ℕ) → Row tree3 → Gives (calledWith (mem tree3) (ear e)) old r (mem′ tree3) new
+
+-- close, whatever the order and trees 1 and 2 hold
+abbrev pub Closes : (List ℕ → List ℕ → List ℕ → Memory) → Refusal → (List ℕ → List ℕ → List ℕ → Memory) → Type 0
+Closes mem r mem′ = (order tree1 tree2 : List ℕ) → Row order → Row tree1 → Row tree2
+    → Returns (calledWith (mem order tree1 tree2) close) r (mem′ order tree1 tree2)
+
+-- parent and walk, whatever the arrays beside the trees hold; the output is the entry, and the count of switches written
+abbrev pub Tells : (List ℕ → List ℕ → List ℕ → List ℕ → Memory) → ℕ → ℕ → ℕ → Refusal → ℕ → Type 0
+Tells mem switch tree old r new = (links used births order : List ℕ) → length links ≡ 8192 → length used ≡ 4096 → Row births → Row order
+    → (let mem = mem links used births order in
+    Gives (sized (wrongIn mem) mem (record { answer = parentBy (sessionAt mem) switch tree; after = mem })) old r mem new)
+
+abbrev pub WritesWalk : (List ℕ → List ℕ → List ℕ → List ℕ → Memory) → ℕ → ℕ → List ℕ → ℕ → Refusal → List ℕ → ℕ → Type 0
+WritesWalk mem switch tree out old r out′ new = (links used births order : List ℕ) → length links ≡ 8192 → length used ≡ 4096 → Row births → Row order
+    → (let mem = mem links used births order in
+    Gives (sized (wrongIn mem) out (walkedBy (sessionAt mem) switch tree out)) old r out′ new)

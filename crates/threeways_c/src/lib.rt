@@ -1,0 +1,368 @@
+// The calls of a session for C, over the numbers and the arrays of struct threeways_session (include/threeways.h), lent one by one.
+// Each is the call in place, for any contents of that memory; arrays of other lengths than the struct's are refused with 255.
+use judge::Ear;
+use memory::CLOSED;
+use memory::LENGTHS;
+use memory::LINKS;
+use memory::MARKS;
+use memory::ROW;
+use memory::Refusal;
+use network::Load;
+use tables::Close;
+use walks::Parent;
+use walks::Walk;
+ghost use mathlib.Core.Path.{_≡_};
+ghost use Rattle.network.specs.Load.{networkOf};
+ghost use Rattle.memory.specs.Memory.{numbersBy, memoryBy};
+ghost use Rattle.threeways_c.specs.Calls.{Clears, Loads, Offers, Closes, Tells, WritesWalk};
+
+// Clears the session: always succeeds.
+#[no_mangle]
+pub extern "C" fn threeways_clear_in(
+    stage: &mut u16,
+    n: &mut u16,
+    m: &mut u16,
+    root: &mut u16,
+    first: &mut u16,
+    last: &mut u16,
+    longs: &mut u16,
+    born: &mut u16,
+    links: &mut [u16],
+    used: &mut [u8],
+    births: &mut [u16],
+    order: &mut [u16],
+    tree1: &mut [u16],
+    tree2: &mut [u16],
+    tree3: &mut [u16],
+) -> Refusal
+    ensures { λ r. ⌜ Clears
+        (memoryBy
+        (numbersBy (now (stage .entry)) (now (n .entry)) (now (m .entry)) (now (root .entry))
+        (now (first .entry)) (now (last .entry)) (now (longs .entry)) (now (born .entry)))
+        (now (links .entry)) (now (used .entry)) (now (births .entry)) (now (order .entry)) (now (tree1 .entry)) (now (tree2 .entry)) (now (tree3 .entry)))
+        r
+        (memoryBy
+        (numbersBy (now (stage .exit)) (now (n .exit)) (now (m .exit)) (now (root .exit))
+        (now (first .exit)) (now (last .exit)) (now (longs .exit)) (now (born .exit)))
+        (now (links .exit)) (now (used .exit)) (now (births .exit)) (now (order .exit)) (now (tree1 .exit)) (now (tree2 .exit)) (now (tree3 .exit))) ⌝ }
+{
+    if memory::wrong_lengths(
+        links.len(),
+        used.len(),
+        births.len(),
+        order.len(),
+        tree1.len(),
+        tree2.len(),
+        tree3.len(),
+    ) {
+        return Refusal {
+            number: LENGTHS,
+            place: 0,
+        };
+    }
+    let mut none = [0u16; 0];
+    let state = in_place::clear(links, used, births, order, tree1, tree2, tree3, &mut none);
+    memory::put_state(state, stage, n, m, root, first, last, longs, born);
+    Refusal {
+        number: 0,
+        place: 0,
+    }
+}
+
+// Loads a network into an empty session: 20 on any other, then checks 1 to 6.
+#[no_mangle]
+pub extern "C" fn threeways_load_in(
+    stage: &mut u16,
+    n: &mut u16,
+    m: &mut u16,
+    root: &mut u16,
+    first: &mut u16,
+    last: &mut u16,
+    longs: &mut u16,
+    born: &mut u16,
+    links: &mut [u16],
+    used: &mut [u8],
+    births: &mut [u16],
+    order: &mut [u16],
+    tree1: &mut [u16],
+    tree2: &mut [u16],
+    tree3: &mut [u16],
+    new_n: u16,
+    new_links: &[u16],
+    new_root: u16,
+    new_first: u16,
+    new_last: u16,
+) -> Refusal
+    ensures { λ r. ⌜ Loads
+        (memoryBy
+        (numbersBy (now (stage .entry)) (now (n .entry)) (now (m .entry)) (now (root .entry))
+        (now (first .entry)) (now (last .entry)) (now (longs .entry)) (now (born .entry)))
+        (now (links .entry)) (now (used .entry)) (now (births .entry)) (now (order .entry)) (now (tree1 .entry)) (now (tree2 .entry)) (now (tree3 .entry)))
+        (networkOf «new_n» (now («new_links» .entry)) «new_root» «new_first» «new_last») r
+        (memoryBy
+        (numbersBy (now (stage .exit)) (now (n .exit)) (now (m .exit)) (now (root .exit))
+        (now (first .exit)) (now (last .exit)) (now (longs .exit)) (now (born .exit)))
+        (now (links .exit)) (now (used .exit)) (now (births .exit)) (now (order .exit)) (now (tree1 .exit)) (now (tree2 .exit)) (now (tree3 .exit))) ⌝ }
+{
+    if memory::wrong_lengths(
+        links.len(),
+        used.len(),
+        births.len(),
+        order.len(),
+        tree1.len(),
+        tree2.len(),
+        tree3.len(),
+    ) {
+        return Refusal {
+            number: LENGTHS,
+            place: 0,
+        };
+    }
+    let st = memory::state_of(*stage, *n, *m, *root, *first, *last, *longs, *born);
+    let mut none = [0u16; 0];
+    let loaded = in_place::load(
+        st,
+        new_n,
+        new_links,
+        new_root,
+        new_first,
+        new_last,
+        links,
+        used,
+        births,
+        order,
+        tree1,
+        tree2,
+        tree3,
+        &mut none,
+    );
+    let answer = loaded.answer;
+    match answer {
+        Load::Refused(number, place) => Refusal { number, place },
+        Load::Loaded(switches, size) => {
+            let state = loaded.state;
+            memory::put_state(state, stage, n, m, root, first, last, longs, born);
+            Refusal {
+                number: 0,
+                place: 0,
+            }
+        }
+    }
+}
+
+// Offers an ear to an open session: 19 on an empty one, 22 on a closed one, then checks 7 to 16. Writes the number of new switches.
+#[no_mangle]
+pub extern "C" fn threeways_ear_in(
+    stage: u16,
+    n: u16,
+    m: u16,
+    root: u16,
+    first: u16,
+    last: u16,
+    longs: &mut u16,
+    born: &mut u16,
+    links: &[u16],
+    used: &mut [u8],
+    births: &mut [u16],
+    order: &mut [u16],
+    tree1: &mut [u16],
+    tree2: &mut [u16],
+    ear: &[u16],
+    count: &mut u16,
+) -> Refusal
+    ensures { λ r. ⌜ Offers
+        (λ tree3. memoryBy (numbersBy stage n m root first last (now (longs .entry)) (now (born .entry)))
+        (now (links .entry)) (now (used .entry)) (now (births .entry)) (now (order .entry)) (now (tree1 .entry)) (now (tree2 .entry)) tree3)
+        (now (ear .entry)) (now (count .entry)) r
+        (λ tree3. memoryBy (numbersBy stage n m root first last (now (longs .exit)) (now (born .exit)))
+        (now (links .exit)) (now (used .exit)) (now (births .exit)) (now (order .exit)) (now (tree1 .exit)) (now (tree2 .exit)) tree3)
+        (now (count .exit)) ⌝ }
+{
+    if memory::wrong_lengths(
+        links.len(),
+        used.len(),
+        births.len(),
+        order.len(),
+        tree1.len(),
+        tree2.len(),
+        ROW,
+    ) {
+        return Refusal {
+            number: LENGTHS,
+            place: 0,
+        };
+    }
+    let st = memory::state_of(stage, n, m, root, first, last, *longs, *born);
+    let none = [0u16; 0];
+    let offered = in_place::ear(st, links, &none, used, births, order, tree1, tree2, ear);
+    let answer = offered.answer;
+    match answer {
+        Ear::Refused(number, place) => Refusal { number, place },
+        Ear::New(new) => {
+            let state = offered.state;
+            *longs = state.longs;
+            *born = state.born;
+            *count = new;
+            Refusal {
+                number: 0,
+                place: 0,
+            }
+        }
+    }
+}
+
+// Closes an open session: 19 on an empty one, 22 on a closed one, then check 23.
+#[no_mangle]
+pub extern "C" fn threeways_close_in(
+    stage: &mut u16,
+    n: u16,
+    m: u16,
+    root: u16,
+    first: u16,
+    last: u16,
+    longs: u16,
+    born: u16,
+    links: &[u16],
+    used: &[u8],
+    births: &[u16],
+    tree3: &mut [u16],
+) -> Refusal
+    ensures { λ r. ⌜ Closes
+        (λ order tree1 tree2. memoryBy (numbersBy (now (stage .entry)) n m root first last longs born)
+        (now (links .entry)) (now (used .entry)) (now (births .entry)) order tree1 tree2 (now (tree3 .entry)))
+        r
+        (λ order tree1 tree2. memoryBy (numbersBy (now (stage .exit)) n m root first last longs born)
+        (now (links .exit)) (now (used .exit)) (now (births .exit)) order tree1 tree2 (now (tree3 .exit))) ⌝ }
+{
+    if memory::wrong_lengths(
+        links.len(),
+        used.len(),
+        births.len(),
+        ROW,
+        ROW,
+        ROW,
+        tree3.len(),
+    ) {
+        return Refusal {
+            number: LENGTHS,
+            place: 0,
+        };
+    }
+    let st = memory::state_of(*stage, n, m, root, first, last, longs, born);
+    let closed = in_place::close(st, links, used, births, tree3);
+    let answer = closed.answer;
+    match answer {
+        Close::Refused(number, place) => Refusal { number, place },
+        Close::Closed => {
+            *stage = CLOSED;
+            Refusal {
+                number: 0,
+                place: 0,
+            }
+        }
+    }
+}
+
+// Writes the entry of a switch in the table of a tree, 1 to 3: 19 on an empty session, 21 on an open one, then check 17.
+#[no_mangle]
+pub extern "C" fn threeways_parent_in(
+    stage: u16,
+    n: u16,
+    m: u16,
+    root: u16,
+    first: u16,
+    last: u16,
+    longs: u16,
+    born: u16,
+    tree1: &[u16],
+    tree2: &[u16],
+    tree3: &[u16],
+    switch: u16,
+    tree: u16,
+    out: &mut u16,
+) -> Refusal
+    ensures { λ r. ⌜ Tells
+        (λ links used births order. memoryBy (numbersBy stage n m root first last longs born)
+        links used births order (now (tree1 .entry)) (now (tree2 .entry)) (now (tree3 .entry)))
+        switch tree (now (out .entry)) r (now (out .exit)) ⌝ }
+{
+    if memory::wrong_lengths(
+        LINKS,
+        MARKS,
+        ROW,
+        ROW,
+        tree1.len(),
+        tree2.len(),
+        tree3.len(),
+    ) {
+        return Refusal {
+            number: LENGTHS,
+            place: 0,
+        };
+    }
+    let st = memory::state_of(stage, n, m, root, first, last, longs, born);
+    let answer = in_place::parent(st, tree1, tree2, tree3, switch, tree);
+    match answer {
+        Parent::Refused(number, place) => Refusal { number, place },
+        Parent::Entry(parent) => {
+            *out = parent;
+            Refusal {
+                number: 0,
+                place: 0,
+            }
+        }
+    }
+}
+
+// Writes the walk of a switch in a tree, 1 to 3, at the start of the slice, and its count of switches: 19 on an empty session, 21 on an
+// open one, then checks 17 and 18.
+#[no_mangle]
+pub extern "C" fn threeways_walk_in(
+    stage: u16,
+    n: u16,
+    m: u16,
+    root: u16,
+    first: u16,
+    last: u16,
+    longs: u16,
+    born: u16,
+    tree1: &[u16],
+    tree2: &[u16],
+    tree3: &[u16],
+    switch: u16,
+    tree: u16,
+    out: &mut [u16],
+    count: &mut u16,
+) -> Refusal
+    ensures { λ r. ⌜ WritesWalk
+        (λ links used births order. memoryBy (numbersBy stage n m root first last longs born)
+        links used births order (now (tree1 .entry)) (now (tree2 .entry)) (now (tree3 .entry)))
+        switch tree (now (out .entry)) (now (count .entry)) r (now (out .exit)) (now (count .exit)) ⌝ }
+{
+    if memory::wrong_lengths(
+        LINKS,
+        MARKS,
+        ROW,
+        ROW,
+        tree1.len(),
+        tree2.len(),
+        tree3.len(),
+    ) {
+        return Refusal {
+            number: LENGTHS,
+            place: 0,
+        };
+    }
+    let st = memory::state_of(stage, n, m, root, first, last, longs, born);
+    let answer = in_place::walk(st, tree1, tree2, tree3, switch, tree, out);
+    match answer {
+        Walk::Refused(number, place) => Refusal { number, place },
+        Walk::Count(switches) => {
+            *count = switches;
+            Refusal {
+                number: 0,
+                place: 0,
+            }
+        }
+    }
+}

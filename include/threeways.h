@@ -1,0 +1,180 @@
+/* Three routes to the root of a control network: the calls of a session, for C99 and C++ on x86-64. Link with libthreeways_c.a.
+ * docs/FIRMWARE.md has memory, stack and cost; docs/USER.md says what each refusal means and what to do.
+ *
+ * Proved, of each function of the archive: for any contents of the session and any arguments it ends, does what the definition of
+ * its call says, and reads and writes nothing but what it is lent; after a refusal nothing has changed, outputs included.
+ *
+ * Trusted, in C: that the wrappers at the end of this file pass the parts of a session in the order of the prototypes; that every
+ * pointer is good for the count beside it; that what you lend (links, ear, out, outputs) lies outside the session and does not
+ * overlap; that a session has one caller at a time; and that there is stack enough (docs/FIRMWARE.md).
+ */
+#ifndef THREEWAYS_H
+#define THREEWAYS_H
+
+#include <stddef.h>
+#include <stdint.h>
+
+#ifdef __cplusplus
+extern "C" {
+#endif
+
+enum {
+    THREEWAYS_MIN_SWITCHES = 4,
+    THREEWAYS_MAX_SWITCHES = 1024,
+    THREEWAYS_MIN_LINKS = 6,
+    THREEWAYS_MAX_LINKS = 4096
+};
+
+/* The stage of a session; any other number is read as empty. */
+enum { THREEWAYS_EMPTY = 0, THREEWAYS_OPEN = 1, THREEWAYS_CLOSED = 2 };
+
+/* A session: plain numbers, 30,736 bytes. Copying it copies the session, and all zeros is the empty one. */
+struct threeways_session {
+    uint16_t stage;
+    uint16_t n;                                     /* switches of the network that is loaded, 0 to n - 1 */
+    uint16_t m;                                     /* its links */
+    uint16_t root, first, last;
+    uint16_t longs;                                 /* long ears accepted */
+    uint16_t born;                                  /* switches born */
+    uint16_t links[2 * THREEWAYS_MAX_LINKS];        /* two numbers for each link */
+    uint8_t used[THREEWAYS_MAX_LINKS];              /* by link: 1 where an ear has used it */
+    uint16_t births[THREEWAYS_MAX_SWITCHES];        /* by switch: the long ear that it was born in, from 1; 0 unborn */
+    uint16_t order[THREEWAYS_MAX_SWITCHES];         /* the switches born, in their order */
+    uint16_t tree1[THREEWAYS_MAX_SWITCHES];         /* by switch: its parent in trees 1, 2 and 3 once the session is closed; */
+    uint16_t tree2[THREEWAYS_MAX_SWITCHES];         /* the root's is the root, and what stands past n means nothing */
+    uint16_t tree3[THREEWAYS_MAX_SWITCHES];
+};
+
+typedef char threeways_session_has_30736_bytes[sizeof(struct threeways_session) == 30736 ? 1 : -1];
+
+/* What every call gives: the number of the refusal and its place; number 0 where the call succeeded. */
+struct threeways_refusal {
+    uint8_t number;
+    uint16_t place;
+};
+
+/* 255: an array that was lent to a function of the archive has not the length of the struct's. The wrappers never get it. */
+enum { THREEWAYS_LENGTHS = 255 };
+
+/* The functions of the archive, over the parts of a session. A slice is a pointer and a count of elements, not of bytes; with a
+ * count of 0 the pointer may be any, NULL too. */
+struct threeways_refusal threeways_clear_in(
+    uint16_t *stage, uint16_t *n, uint16_t *m, uint16_t *root,
+    uint16_t *first, uint16_t *last, uint16_t *longs, uint16_t *born,
+    uint16_t *links, size_t links_count,
+    uint8_t *used, size_t used_count,
+    uint16_t *births, size_t births_count,
+    uint16_t *order, size_t order_count,
+    uint16_t *tree1, size_t tree1_count,
+    uint16_t *tree2, size_t tree2_count,
+    uint16_t *tree3, size_t tree3_count);
+
+struct threeways_refusal threeways_load_in(
+    uint16_t *stage, uint16_t *n, uint16_t *m, uint16_t *root,
+    uint16_t *first, uint16_t *last, uint16_t *longs, uint16_t *born,
+    uint16_t *links, size_t links_count,
+    uint8_t *used, size_t used_count,
+    uint16_t *births, size_t births_count,
+    uint16_t *order, size_t order_count,
+    uint16_t *tree1, size_t tree1_count,
+    uint16_t *tree2, size_t tree2_count,
+    uint16_t *tree3, size_t tree3_count,
+    uint16_t new_n, const uint16_t *new_links, size_t new_links_count,
+    uint16_t new_root, uint16_t new_first, uint16_t new_last);
+
+struct threeways_refusal threeways_ear_in(
+    uint16_t stage, uint16_t n, uint16_t m, uint16_t root,
+    uint16_t first, uint16_t last, uint16_t *longs, uint16_t *born,
+    const uint16_t *links, size_t links_count,
+    uint8_t *used, size_t used_count,
+    uint16_t *births, size_t births_count,
+    uint16_t *order, size_t order_count,
+    uint16_t *tree1, size_t tree1_count,
+    uint16_t *tree2, size_t tree2_count,
+    const uint16_t *ear, size_t ear_count, uint16_t *count);
+
+struct threeways_refusal threeways_close_in(
+    uint16_t *stage, uint16_t n, uint16_t m, uint16_t root,
+    uint16_t first, uint16_t last, uint16_t longs, uint16_t born,
+    const uint16_t *links, size_t links_count,
+    const uint8_t *used, size_t used_count,
+    const uint16_t *births, size_t births_count,
+    uint16_t *tree3, size_t tree3_count);
+
+struct threeways_refusal threeways_parent_in(
+    uint16_t stage, uint16_t n, uint16_t m, uint16_t root,
+    uint16_t first, uint16_t last, uint16_t longs, uint16_t born,
+    const uint16_t *tree1, size_t tree1_count,
+    const uint16_t *tree2, size_t tree2_count,
+    const uint16_t *tree3, size_t tree3_count,
+    uint16_t switch_number, uint16_t tree, uint16_t *out);
+
+struct threeways_refusal threeways_walk_in(
+    uint16_t stage, uint16_t n, uint16_t m, uint16_t root,
+    uint16_t first, uint16_t last, uint16_t longs, uint16_t born,
+    const uint16_t *tree1, size_t tree1_count,
+    const uint16_t *tree2, size_t tree2_count,
+    const uint16_t *tree3, size_t tree3_count,
+    uint16_t switch_number, uint16_t tree, uint16_t *out, size_t out_count, uint16_t *count);
+
+/* An array of a session as it is passed: the pointer, and the count of its elements. */
+#define THREEWAYS_ARRAY(array) (array), sizeof(array) / sizeof((array)[0])
+
+/* Makes any memory the empty session. Always succeeds. */
+static inline struct threeways_refusal threeways_clear(struct threeways_session *s)
+{
+    return threeways_clear_in(&s->stage, &s->n, &s->m, &s->root, &s->first, &s->last, &s->longs, &s->born,
+        THREEWAYS_ARRAY(s->links), THREEWAYS_ARRAY(s->used), THREEWAYS_ARRAY(s->births), THREEWAYS_ARRAY(s->order),
+        THREEWAYS_ARRAY(s->tree1), THREEWAYS_ARRAY(s->tree2), THREEWAYS_ARRAY(s->tree3));
+}
+
+/* Loads a network of n switches into an empty session: `numbers` numbers at `links`, two for each link. Then s->n and s->m tell its
+ * size. Refusals 20, then 1 to 6. */
+static inline struct threeways_refusal threeways_load(struct threeways_session *s, uint16_t n, const uint16_t *links,
+    size_t numbers, uint16_t root, uint16_t first, uint16_t last)
+{
+    return threeways_load_in(&s->stage, &s->n, &s->m, &s->root, &s->first, &s->last, &s->longs, &s->born,
+        THREEWAYS_ARRAY(s->links), THREEWAYS_ARRAY(s->used), THREEWAYS_ARRAY(s->births), THREEWAYS_ARRAY(s->order),
+        THREEWAYS_ARRAY(s->tree1), THREEWAYS_ARRAY(s->tree2), THREEWAYS_ARRAY(s->tree3),
+        n, links, numbers, root, first, last);
+}
+
+/* Offers an ear of `count` switch numbers to an open session, and writes how many switches are new. Refusals 19, 22, then 7 to 16. */
+static inline struct threeways_refusal threeways_ear(struct threeways_session *s, const uint16_t *ear, size_t count,
+    uint16_t *new_switches)
+{
+    return threeways_ear_in(s->stage, s->n, s->m, s->root, s->first, s->last, &s->longs, &s->born,
+        THREEWAYS_ARRAY(s->links), THREEWAYS_ARRAY(s->used), THREEWAYS_ARRAY(s->births), THREEWAYS_ARRAY(s->order),
+        THREEWAYS_ARRAY(s->tree1), THREEWAYS_ARRAY(s->tree2), ear, count, new_switches);
+}
+
+/* Closes an open session: the three tables are set. Refusals 19, 22, then 23. */
+static inline struct threeways_refusal threeways_close(struct threeways_session *s)
+{
+    return threeways_close_in(&s->stage, s->n, s->m, s->root, s->first, s->last, s->longs, s->born,
+        THREEWAYS_ARRAY(s->links), THREEWAYS_ARRAY(s->used), THREEWAYS_ARRAY(s->births), THREEWAYS_ARRAY(s->tree3));
+}
+
+/* Writes the parent of a switch in tree 1, 2 or 3 of a closed session. Refusals 19, 21, then 17. */
+static inline struct threeways_refusal threeways_parent(const struct threeways_session *s, uint16_t switch_number,
+    uint16_t tree, uint16_t *entry)
+{
+    return threeways_parent_in(s->stage, s->n, s->m, s->root, s->first, s->last, s->longs, s->born,
+        THREEWAYS_ARRAY(s->tree1), THREEWAYS_ARRAY(s->tree2), THREEWAYS_ARRAY(s->tree3), switch_number, tree, entry);
+}
+
+/* Writes the walk of a switch in tree 1, 2 or 3 of a closed session at the start of `out`, which has room for `room` numbers (n is
+ * always enough), and its count of switches; the rest of `out` is left. Refusals 19, 21, then 17 and 18. */
+static inline struct threeways_refusal threeways_walk(const struct threeways_session *s, uint16_t switch_number, uint16_t tree,
+    uint16_t *out, size_t room, uint16_t *count)
+{
+    return threeways_walk_in(s->stage, s->n, s->m, s->root, s->first, s->last, s->longs, s->born,
+        THREEWAYS_ARRAY(s->tree1), THREEWAYS_ARRAY(s->tree2), THREEWAYS_ARRAY(s->tree3),
+        switch_number, tree, out, room, count);
+}
+
+#ifdef __cplusplus
+}
+#endif
+
+#endif
