@@ -1,6 +1,7 @@
 //! Two programs on one script: equal bytes, and answers that hold against
 //! the brute-force definitions.
 
+use std::collections::BTreeMap;
 use std::io::{Read, Write};
 use std::path::PathBuf;
 use std::process::{Command, Stdio};
@@ -106,19 +107,20 @@ pub fn make_small(first: &Program, second: &Program, script: &[u8], kind: Kind) 
     (small, finding)
 }
 
+/// Each refusal by number, with how often and at how many places it was seen.
+pub fn refusals_told(refusals: &BTreeMap<u16, BTreeMap<u16, usize>>) -> String {
+    let told = refusals.iter().map(|(number, places)| {
+        let times: usize = places.values().sum();
+        match places.len() {
+            1 => format!("{number}:{times}"),
+            count => format!("{number}:{times}/{count}"),
+        }
+    });
+    told.collect::<Vec<String>>().join(" ")
+}
+
 /// One line of counts.
 pub fn summary(counts: &Counts) -> String {
-    let refusals: Vec<String> = counts
-        .refusals
-        .iter()
-        .map(|(number, places)| {
-            let times: usize = places.values().sum();
-            match places.len() {
-                1 => format!("{number}:{times}"),
-                count => format!("{number}:{times}/{count}"),
-            }
-        })
-        .collect();
     format!(
         "equal: {} scripts, {} lines, {} opened, {} ears taken, {} closed, {} cleared, {} unread; \
          {} lists judged by Definition 9 ({} accepted); {} walks, three walks of {} switches and all of {} sites checked; \
@@ -135,6 +137,6 @@ pub fn summary(counts: &Counts) -> String {
         counts.walks,
         counts.switches_checked,
         counts.sites_checked,
-        refusals.join(" ")
+        refusals_told(&counts.refusals)
     )
 }

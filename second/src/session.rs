@@ -26,6 +26,19 @@ impl Session {
         Ok(size)
     }
 
+    /// Loads links that are lent as plain numbers, two for each link; half a link at the end is a wrong M.
+    pub fn load_numbers(&mut self, names: &Site, numbers: &[u16], plant: Plant) -> Result<(usize, usize), Refusal> {
+        let Session::Empty = self else {
+            return refuse(20, 0);
+        };
+        let pairs = numbers.chunks_exact(2);
+        if !pairs.remainder().is_empty() {
+            return refuse(1, 0);
+        }
+        let links = pairs.map(|two| (two[0], two[1])).collect();
+        self.load(&Site { links, ..*names }, plant)
+    }
+
     /// Offering an ear gives the number of new switches.
     pub fn ear(&mut self, ear: &[u16]) -> Result<usize, Refusal> {
         self.open()?.ear(ear)
@@ -51,6 +64,15 @@ impl Session {
     /// The program lends room for every walk, so 18 cannot come up.
     pub fn walk(&self, switch: u16, tree: u16) -> Result<Vec<u16>, Refusal> {
         Ok(self.closed(switch, tree)?.walk(switch, tree))
+    }
+
+    /// The walk that is written into a slice with room for so many numbers.
+    pub fn walk_within(&self, switch: u16, tree: u16, room: usize) -> Result<Vec<u16>, Refusal> {
+        let walk = self.walk(switch, tree)?;
+        if walk.len() > room {
+            return refuse(18, 0);
+        }
+        Ok(walk)
     }
 
     fn open(&mut self) -> Result<&mut Judge, Refusal> {
