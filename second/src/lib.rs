@@ -9,8 +9,15 @@
 //! `brute` has Definition 9 and demand 3 over whole lists, `follow` holds an
 //! output against them, `random`, `plan`, `damage` and `script` make inputs,
 //! `compare` and `shrink` find a difference and make it small.
+//!
+//! With the static archive of the first program linked (the cfg `archive`):
+//! `archive` declares it, `calls` compares each of its calls.
 
+#[cfg(archive)]
+pub mod archive;
 pub mod brute;
+#[cfg(archive)]
+pub mod calls;
 pub mod compare;
 pub mod damage;
 pub mod dialogue;

@@ -1,0 +1,299 @@
+//! The static archive of the first program as its header for C declares it: a session's memory, and the six functions.
+//! `Session::parts` lends what the header's wrappers lend; the arrays of other `Parts` may have any length.
+
+use std::ptr::NonNull;
+
+use crate::network::{MAX_LINKS, MAX_SWITCHES};
+
+/// The memory of a session: the header's struct.
+#[repr(C)]
+#[derive(Clone, PartialEq, Eq)]
+pub struct Session {
+    pub stage: u16,
+    pub n: u16,
+    pub m: u16,
+    pub root: u16,
+    pub first: u16,
+    pub last: u16,
+    pub longs: u16,
+    pub born: u16,
+    pub links: [u16; 2 * MAX_LINKS],
+    pub used: [u8; MAX_LINKS],
+    pub births: [u16; MAX_SWITCHES],
+    pub order: [u16; MAX_SWITCHES],
+    pub tree1: [u16; MAX_SWITCHES],
+    pub tree2: [u16; MAX_SWITCHES],
+    pub tree3: [u16; MAX_SWITCHES],
+}
+
+/// The struct as 16-bit numbers. Its fields fill it: no byte of it lies between two of them.
+pub const NUMBERS: usize = 15368;
+const _: () = assert!(std::mem::size_of::<Session>() == 2 * NUMBERS && std::mem::align_of::<Session>() == 2);
+const _: () = assert!(8 + 2 * MAX_LINKS + MAX_LINKS / 2 + 5 * MAX_SWITCHES == NUMBERS);
+
+/// What a call gives: number 0 where it succeeded.
+#[repr(C)]
+#[derive(Clone, Copy, Debug, PartialEq, Eq)]
+pub struct Refusal {
+    pub number: u8,
+    pub place: u16,
+}
+
+/// The refusal of an array that has not the length of the struct's, at place 0.
+pub const LENGTHS: Refusal = Refusal { number: 255, place: 0 };
+
+/// The stages of a session; any other number reads as empty.
+pub const OPEN: u16 = 1;
+pub const CLOSED: u16 = 2;
+
+type In<T> = *const T;
+type Out<T> = *mut T;
+
+// The prototypes, laid out as in the header.
+#[rustfmt::skip]
+extern "C" {
+    fn threeways_clear_in(
+        stage: Out<u16>, n: Out<u16>, m: Out<u16>, root: Out<u16>,
+        first: Out<u16>, last: Out<u16>, longs: Out<u16>, born: Out<u16>,
+        links: Out<u16>, links_count: usize,
+        used: Out<u8>, used_count: usize,
+        births: Out<u16>, births_count: usize,
+        order: Out<u16>, order_count: usize,
+        tree1: Out<u16>, tree1_count: usize,
+        tree2: Out<u16>, tree2_count: usize,
+        tree3: Out<u16>, tree3_count: usize,
+    ) -> Refusal;
+
+    fn threeways_load_in(
+        stage: Out<u16>, n: Out<u16>, m: Out<u16>, root: Out<u16>,
+        first: Out<u16>, last: Out<u16>, longs: Out<u16>, born: Out<u16>,
+        links: Out<u16>, links_count: usize,
+        used: Out<u8>, used_count: usize,
+        births: Out<u16>, births_count: usize,
+        order: Out<u16>, order_count: usize,
+        tree1: Out<u16>, tree1_count: usize,
+        tree2: Out<u16>, tree2_count: usize,
+        tree3: Out<u16>, tree3_count: usize,
+        new_n: u16, new_links: In<u16>, new_links_count: usize,
+        new_root: u16, new_first: u16, new_last: u16,
+    ) -> Refusal;
+
+    fn threeways_ear_in(
+        stage: u16, n: u16, m: u16, root: u16,
+        first: u16, last: u16, longs: Out<u16>, born: Out<u16>,
+        links: In<u16>, links_count: usize,
+        used: Out<u8>, used_count: usize,
+        births: Out<u16>, births_count: usize,
+        order: Out<u16>, order_count: usize,
+        tree1: Out<u16>, tree1_count: usize,
+        tree2: Out<u16>, tree2_count: usize,
+        ear: In<u16>, ear_count: usize, count: Out<u16>,
+    ) -> Refusal;
+
+    fn threeways_close_in(
+        stage: Out<u16>, n: u16, m: u16, root: u16,
+        first: u16, last: u16, longs: u16, born: u16,
+        links: In<u16>, links_count: usize,
+        used: In<u8>, used_count: usize,
+        births: In<u16>, births_count: usize,
+        tree3: Out<u16>, tree3_count: usize,
+    ) -> Refusal;
+
+    fn threeways_parent_in(
+        stage: u16, n: u16, m: u16, root: u16,
+        first: u16, last: u16, longs: u16, born: u16,
+        tree1: In<u16>, tree1_count: usize,
+        tree2: In<u16>, tree2_count: usize,
+        tree3: In<u16>, tree3_count: usize,
+        switch_number: u16, tree: u16, out: Out<u16>,
+    ) -> Refusal;
+
+    fn threeways_walk_in(
+        stage: u16, n: u16, m: u16, root: u16,
+        first: u16, last: u16, longs: u16, born: u16,
+        tree1: In<u16>, tree1_count: usize,
+        tree2: In<u16>, tree2_count: usize,
+        tree3: In<u16>, tree3_count: usize,
+        switch_number: u16, tree: u16, out: Out<u16>, out_count: usize, count: Out<u16>,
+    ) -> Refusal;
+}
+
+/// The parts of a session: its numbers as the struct has them, and its arrays.
+pub struct Parts<'a> {
+    pub numbers: [&'a mut u16; 8],
+    pub links: &'a mut [u16],
+    pub used: &'a mut [u8],
+    pub births: &'a mut [u16],
+    pub order: &'a mut [u16],
+    pub tree1: &'a mut [u16],
+    pub tree2: &'a mut [u16],
+    pub tree3: &'a mut [u16],
+}
+
+/// A call of the archive: the numbers by pointer (`mut`) or by value, each array named with its count, then the call's own
+/// arguments. Every pointer comes from a reference or a slice that is lent for writing, so that it is good and none overlap.
+macro_rules! call {
+    (@ mut $number:expr) => { &mut **$number as Out<u16> };
+    (@ val $number:expr) => { **$number };
+    ($function:ident, $parts:ident, [$($how:tt),*], [$($array:ident),*] $(, $more:expr)*) => {{
+        let [a, b, c, d, e, f, g, h] = &mut $parts.numbers;
+        call!(@@ $function, $parts, [$($how),*], [a, b, c, d, e, f, g, h], [$($array),*] $(, $more)*)
+    }};
+    (@@ $function:ident, $parts:ident, [$($how:tt),*], [$($number:ident),*], [$($array:ident),*] $(, $more:expr)*) => {
+        unsafe {
+            $function($(call!(@ $how $number),)* $(start_mut($parts.$array), $parts.$array.len(),)* $($more),*)
+        }
+    };
+}
+
+/// The same with the numbers by value and the three trees for reading.
+macro_rules! read {
+    ($function:ident, $parts:ident $(, $more:expr)*) => {{
+        let [stage, n, m, root, first, last, longs, born] = &$parts.numbers;
+        let (tree1, tree2, tree3) = (&*$parts.tree1, &*$parts.tree2, &*$parts.tree3);
+        unsafe {
+            $function(
+                **stage, **n, **m, **root, **first, **last, **longs, **born,
+                start(tree1), tree1.len(), start(tree2), tree2.len(), start(tree3), tree3.len(), $($more),*
+            )
+        }
+    }};
+}
+
+impl Parts<'_> {
+    pub fn clear(&mut self) -> Refusal {
+        call!(
+            threeways_clear_in,
+            self,
+            [mut, mut, mut, mut, mut, mut, mut, mut],
+            [links, used, births, order, tree1, tree2, tree3]
+        )
+    }
+
+    pub fn load(&mut self, n: u16, links: &[u16], root: u16, first: u16, last: u16) -> Refusal {
+        let (lent, count) = (start(links), links.len());
+        call!(
+            threeways_load_in,
+            self,
+            [mut, mut, mut, mut, mut, mut, mut, mut],
+            [links, used, births, order, tree1, tree2, tree3],
+            n,
+            lent,
+            count,
+            root,
+            first,
+            last
+        )
+    }
+
+    pub fn ear(&mut self, ear: &[u16], count: &mut u16) -> Refusal {
+        let (ear, length) = (start(ear), ear.len());
+        call!(
+            threeways_ear_in,
+            self,
+            [val, val, val, val, val, val, mut, mut],
+            [links, used, births, order, tree1, tree2],
+            ear,
+            length,
+            count
+        )
+    }
+
+    pub fn close(&mut self) -> Refusal {
+        call!(
+            threeways_close_in,
+            self,
+            [mut, val, val, val, val, val, val, val],
+            [links, used, births, tree3]
+        )
+    }
+
+    pub fn parent(&self, switch: u16, tree: u16, entry: &mut u16) -> Refusal {
+        read!(threeways_parent_in, self, switch, tree, entry)
+    }
+
+    pub fn walk(&self, switch: u16, tree: u16, out: &mut [u16], count: &mut u16) -> Refusal {
+        let (out, room) = (start_mut(out), out.len());
+        read!(threeways_walk_in, self, switch, tree, out, room, count)
+    }
+}
+
+/// Where a slice starts; NULL for an empty one that points nowhere, as `&[]` does.
+fn start<T>(slice: &[T]) -> *const T {
+    if slice.as_ptr() == NonNull::dangling().as_ptr() {
+        return std::ptr::null();
+    }
+    slice.as_ptr()
+}
+
+fn start_mut<T>(slice: &mut [T]) -> *mut T {
+    if slice.as_ptr() == NonNull::dangling().as_ptr() {
+        return std::ptr::null_mut();
+    }
+    slice.as_mut_ptr()
+}
+
+impl Session {
+    pub const EMPTY: Session = Session {
+        stage: 0,
+        n: 0,
+        m: 0,
+        root: 0,
+        first: 0,
+        last: 0,
+        longs: 0,
+        born: 0,
+        links: [0; 2 * MAX_LINKS],
+        used: [0; MAX_LINKS],
+        births: [0; MAX_SWITCHES],
+        order: [0; MAX_SWITCHES],
+        tree1: [0; MAX_SWITCHES],
+        tree2: [0; MAX_SWITCHES],
+        tree3: [0; MAX_SWITCHES],
+    };
+
+    /// The parts as the header's wrappers lend them.
+    pub fn parts(&mut self) -> Parts<'_> {
+        Parts {
+            numbers: [
+                &mut self.stage,
+                &mut self.n,
+                &mut self.m,
+                &mut self.root,
+                &mut self.first,
+                &mut self.last,
+                &mut self.longs,
+                &mut self.born,
+            ],
+            links: &mut self.links,
+            used: &mut self.used,
+            births: &mut self.births,
+            order: &mut self.order,
+            tree1: &mut self.tree1,
+            tree2: &mut self.tree2,
+            tree3: &mut self.tree3,
+        }
+    }
+
+    /// The session that these numbers are.
+    pub fn at(numbers: &[u16]) -> &Session {
+        assert_eq!(numbers.len(), NUMBERS);
+        // Size and alignment are those of the struct, and any numbers are a session.
+        unsafe { &*numbers.as_ptr().cast() }
+    }
+
+    pub fn at_mut(numbers: &mut [u16]) -> &mut Session {
+        assert_eq!(numbers.len(), NUMBERS);
+        unsafe { &mut *numbers.as_mut_ptr().cast() }
+    }
+
+    /// All of the struct, as numbers.
+    pub fn numbers(&self) -> &[u16; NUMBERS] {
+        // Size and alignment are those of the struct, which has no gaps.
+        unsafe { &*(self as *const Session).cast() }
+    }
+
+    pub fn numbers_mut(&mut self) -> &mut [u16; NUMBERS] {
+        unsafe { &mut *(self as *mut Session).cast() }
+    }
+}

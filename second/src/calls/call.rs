@@ -1,0 +1,111 @@
+//! A call of a session with its arguments, and what the second program answers to it.
+//! An answer has the call's values in document 01's order, or its refusal.
+
+use std::fmt::{Display, Formatter, Result as Written};
+
+use crate::archive::{self, Parts};
+use crate::network::Site;
+use crate::session::Session;
+use crate::{Plant, Refusal};
+
+#[derive(Clone, Debug)]
+pub enum Call {
+    Clear,
+    /// A site without its links, and links as plain numbers.
+    Load(Site, Vec<u16>),
+    Ear(Vec<u16>),
+    Close,
+    Parent {
+        switch: u16,
+        tree: u16,
+    },
+    Walk {
+        switch: u16,
+        tree: u16,
+        room: usize,
+    },
+}
+
+/// The values that a call gives (of a walk the count, then the switches), or its refusal.
+pub type Answer = Result<Vec<u16>, Refusal>;
+
+impl Call {
+    /// The site's names and switches, with these numbers for its links.
+    pub fn load(site: &Site, numbers: Vec<u16>) -> Call {
+        Call::Load(Site { links: Vec::new(), ..*site }, numbers)
+    }
+
+    /// The numbers that the call lends for reading.
+    pub fn lent(&self) -> &[u16] {
+        match self {
+            Call::Load(_, numbers) | Call::Ear(numbers) => numbers,
+            _ => &[],
+        }
+    }
+
+    /// How many numbers it lends for writing.
+    pub fn room(&self) -> usize {
+        match self {
+            Call::Walk { room, .. } => *room,
+            _ => 0,
+        }
+    }
+
+    /// Makes the call on the second program's session.
+    pub fn second(&self, session: &mut Session, plant: Plant) -> Answer {
+        match self {
+            Call::Clear => {
+                session.clear();
+                Ok(Vec::new())
+            }
+            Call::Load(names, numbers) => {
+                session.load_numbers(names, numbers, plant).map(|(n, m)| vec![n as u16, m as u16])
+            }
+            Call::Ear(ear) => session.ear(ear).map(|new| vec![new as u16]),
+            Call::Close => session.close().map(|()| Vec::new()),
+            Call::Parent { switch, tree } => session.parent(*switch, *tree).map(|entry| vec![entry]),
+            Call::Walk { switch, tree, room } => {
+                let walk = session.walk_within(*switch, *tree, *room)?;
+                Ok([&[walk.len() as u16], &walk[..]].concat())
+            }
+        }
+    }
+
+    /// Makes the call on a session of the archive. Its numbers are lent at `lent`, and it writes at `out` and `value`.
+    pub fn archive(&self, parts: &mut Parts, lent: &[u16], out: &mut [u16], value: &mut u16) -> archive::Refusal {
+        match self {
+            Call::Clear => parts.clear(),
+            Call::Load(Site { switches, root, first, last, .. }, _) => {
+                parts.load(*switches, lent, *root, *first, *last)
+            }
+            Call::Ear(_) => parts.ear(lent, value),
+            Call::Close => parts.close(),
+            Call::Parent { switch, tree } => parts.parent(*switch, *tree, value),
+            Call::Walk { switch, tree, .. } => parts.walk(*switch, *tree, out, value),
+        }
+    }
+}
+
+/// Numbers with a space before each.
+struct Numbers<'a>(&'a [u16]);
+
+impl Display for Numbers<'_> {
+    fn fmt(&self, out: &mut Formatter) -> Written {
+        self.0.iter().try_for_each(|number| write!(out, " {number}"))
+    }
+}
+
+impl Display for Call {
+    fn fmt(&self, out: &mut Formatter) -> Written {
+        match self {
+            Call::Clear => write!(out, "clear"),
+            Call::Load(Site { switches, root, first, last, .. }, numbers) => {
+                write!(out, "load {switches} root {root} first {first} last {last} links{}", Numbers(numbers))
+            }
+            Call::Ear(ear) => write!(out, "ear{}", Numbers(ear)),
+            Call::Close => write!(out, "close"),
+            Call::Parent { switch, tree } => write!(out, "parent {switch} {tree}"),
+            Call::Walk { switch, tree, room } => write!(out, "walk {switch} {tree} into {room}"),
+        }
+    }
+}

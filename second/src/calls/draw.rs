@@ -1,0 +1,190 @@
+//! Draws the calls of a session: a plan offered ear by ear or tried at random, and calls that stray from it.
+//! It also draws calls on memory that no calls made.
+
+use super::arguments::{any_numbers, mix_plan, path, query, through, wild_query};
+use super::call::Call;
+use crate::archive::{self, CLOSED, OPEN};
+use crate::damage::{damage_site, damaged_ear, last_by_root, tried_ear, tried_in_vain};
+use crate::judge::Judge;
+use crate::network::{Site, MAX_LINKS};
+use crate::plan::{Plan, Shape};
+use crate::random::Random;
+use crate::session::Session;
+
+/// An ear of this many numbers or more has places enough that more calls stray from it.
+const LONG: usize = 9;
+
+/// What the calls of a session are drawn from.
+pub struct Draw {
+    plan: Plan,
+    /// How many ears of the plan were offered.
+    at: usize,
+    /// Ears are tried at random, not taken from the plan.
+    tries: bool,
+    /// Percent of calls that stray from the plan.
+    noise: usize,
+    /// How many calls other than ears of the plan are still to come.
+    left: usize,
+}
+
+impl Draw {
+    /// Most sites are small; session by session some are larger, and few of full size.
+    pub fn of(random: &mut Random, session: u64) -> Draw {
+        let (switches, noise) = match session {
+            _ if session % 1000 == 500 => (*random.pick(&[1024, 1024, 1023, 700, 300]), 3),
+            _ if session % 40 == 20 => (random.within(21, 200), 15),
+            _ => (random.within(4, 20), *random.pick(&[5, 20, 40, 60, 90])),
+        };
+        let mut shape = Shape::random(random, switches);
+        if switches > 200 && random.chance(30) {
+            (shape.links, shape.cubic) = (MAX_LINKS, false);
+        }
+        let mut plan = Plan::of(&shape, random);
+        if random.chance(15) {
+            mix_plan(random, &mut plan);
+        }
+        let long = plan.ears.iter().filter(|ear| ear.len() >= LONG).count();
+        let left = random.within(5, 40) + plan.ears.len() * noise / 40 + 5 * long;
+        Draw { plan, at: 0, tries: switches <= 20 && random.chance(25), noise, left }
+    }
+
+    /// After how many calls the session is overwritten, if it is.
+    pub fn overwritten_after(&self, random: &mut Random) -> usize {
+        random.below(self.plan.ears.len() + 30)
+    }
+
+    /// The next call, if one is still to come.
+    pub fn next(&mut self, random: &mut Random, session: &Session) -> Option<Call> {
+        let next_ear = self.plan.ears.get(self.at).filter(|_| !self.tries);
+        let strays = random.chance(match (session, next_ear) {
+            (Session::Open(_), Some(ear)) if ear.len() >= LONG => 85,
+            (Session::Open(_), _) => self.noise,
+            _ => self.noise.min(20),
+        });
+        if let (Session::Open(_), Some(ear), false) = (session, next_ear, strays) {
+            self.at += 1;
+            return Some(Call::Ear(ear.clone()));
+        }
+        self.left = self.left.checked_sub(1)?;
+        if strays {
+            return Some(self.stray(random, session));
+        }
+        Some(match session {
+            Session::Empty => {
+                self.at = 0;
+                self.load(random, 30)
+            }
+            Session::Open(judge) if self.tries || random.chance(50) => self.tried(random, judge),
+            Session::Open(_) => Call::Close,
+            Session::Closed(_) => query(random, session, self.plan.site.switches),
+        })
+    }
+
+    /// An ear that may be taken where the plan is not followed: a link that is left, or a path.
+    fn tried(&self, random: &mut Random, judge: &Judge) -> Call {
+        let network = &judge.network;
+        let all_born = (0..network.switches as u16).all(|s| judge.is_born(s));
+        if !all_born || random.chance(5) {
+            return if random.chance(95) { Call::Ear(tried_ear(random, judge)) } else { Call::Close };
+        }
+        let from = random.below(network.switches);
+        let switches = (0..network.switches).map(|k| ((from + k) % network.switches) as u16);
+        let mut links = switches.flat_map(|s| network.neighbours(s).iter().map(move |other| (s, other)));
+        match links.find(|(_, other)| !judge.is_used(other.link as usize)) {
+            Some((s, other)) => Call::Ear(vec![s, other.switch]),
+            None => Call::Close,
+        }
+    }
+
+    /// A call that is most likely refused.
+    fn stray(&mut self, random: &mut Random, session: &Session) -> Call {
+        match random.below(20) {
+            0 | 1 => Call::Close,
+            2 => self.load(random, 60),
+            3 => query(random, session, self.plan.site.switches),
+            4 if random.chance(15) => {
+                self.at = 0;
+                Call::Clear
+            }
+            _ => Call::Ear(self.stray_ear(random, session)),
+        }
+    }
+
+    fn stray_ear(&self, random: &mut Random, session: &Session) -> Vec<u16> {
+        let Session::Open(judge) = session else {
+            return self.any_ear(random);
+        };
+        match random.below(20) {
+            0 | 1 => last_by_root(random, judge),
+            2 | 3 => tried_in_vain(random, judge),
+            4..=8 => through(random, judge),
+            9 => self.any_ear(random),
+            _ => damaged_ear(random, judge, &self.plan.ears, self.at),
+        }
+    }
+
+    /// An ear that asks nobody: of the plan, of any numbers, or a good one with 65,536 numbers behind it.
+    fn any_ear(&self, random: &mut Random) -> Vec<u16> {
+        match random.below(400) {
+            0 => {
+                let ear = random.pick(&self.plan.ears);
+                ear.iter().cycle().take(65536 + ear.len()).copied().collect()
+            }
+            1..=10 => any_numbers(random, 5000),
+            11..=120 => any_numbers(random, 30),
+            121..=150 => (0..random.below(1200) as u16).collect(),
+            _ => random.pick(&self.plan.ears).clone(),
+        }
+    }
+
+    /// The plan's network, damaged in so many of a hundred cases.
+    fn load(&self, random: &mut Random, damaged: usize) -> Call {
+        let flat = |site: &Site| site.links.iter().flat_map(|&(a, b)| [a, b]).collect();
+        if !random.chance(damaged) {
+            return Call::load(&self.plan.site, flat(&self.plan.site));
+        }
+        let mut site = self.plan.site.clone();
+        for _ in 0..random.below(4) {
+            damage_site(random, &mut site);
+        }
+        let mut numbers: Vec<u16> = flat(&site);
+        match random.below(60) {
+            0 => numbers.clear(),
+            1 => numbers.truncate(numbers.len().saturating_sub(1)),
+            2 => numbers.push(random.below(5) as u16),
+            3 => numbers = any_numbers(random, 9000),
+            4 => numbers = numbers.iter().cycle().take(random.within(8190, 8200)).copied().collect(),
+            5 if random.chance(30) => numbers.extend(vec![0; 131072]),
+            _ => {}
+        }
+        Call::load(&site, numbers)
+    }
+
+    /// A call on memory that no calls made, most often one for its stage.
+    pub fn wild(&mut self, random: &mut Random, memory: &archive::Session) -> Call {
+        let kind = match memory.stage {
+            _ if random.chance(15) => random.below(20),
+            OPEN => random.within(4, 20),
+            CLOSED => random.within(2, 3),
+            _ => random.below(3),
+        };
+        match kind {
+            0 => self.load(random, 40),
+            1 if random.chance(20) => Call::Clear,
+            1..=3 => wild_query(random, memory),
+            4..=6 => Call::Close,
+            7..=9 => Call::Ear(self.any_ear(random)),
+            10..=13 => Call::Ear(path(random, memory)),
+            _ => Call::Ear(self.moved_ear(memory)),
+        }
+    }
+
+    /// The next ear of the plan, its numbers raised as the root in memory is.
+    fn moved_ear(&mut self, memory: &archive::Session) -> Vec<u16> {
+        let by = memory.root.wrapping_sub(self.plan.site.root);
+        let at = if memory.born == 0 { 0 } else { self.at % self.plan.ears.len() };
+        self.at = at + 1;
+        let ear = &self.plan.ears[at];
+        ear.iter().map(|switch| switch.wrapping_add(by)).collect()
+    }
+}

@@ -1,0 +1,108 @@
+//! One copy of a session's memory with what a call on it is lent.
+//! After each call the copy tells whether anything changed that must not.
+
+use super::call::{Answer, Call};
+use super::lent::{Lent, Memory};
+use super::trial::{Finding, Kind};
+use crate::archive::{Refusal, Session};
+
+/// A fault put in on purpose behind a call of the archive, so that a test can see it found.
+#[derive(Clone, Copy, Debug, PartialEq, Eq, Default)]
+pub enum Fault {
+    #[default]
+    Nothing,
+    /// A refusal changes an entry of the session.
+    Session,
+    /// A number behind the session changes.
+    Behind,
+    /// A number that is lent for reading changes.
+    Lent,
+    /// The number behind a walk changes.
+    Rest,
+    /// One of two equal copies gets another entry.
+    Copy,
+    /// Arrays of wrong lengths are lent with the right ones.
+    Lengths,
+}
+
+/// The memory of a session, and what a call on it is lent.
+pub struct Side<M> {
+    pub memory: M,
+    lent: Lent<u16>,
+    out: Lent<u16>,
+    value: Lent<u16>,
+}
+
+impl<M: Memory> Side<M> {
+    pub fn new(memory: M, guards: usize, mark: u16, nowhere: bool) -> Side<M> {
+        let lent = || Lent::new(guards, mark, nowhere);
+        Side { memory, lent: lent(), out: lent(), value: lent() }
+    }
+
+    /// Makes a call; the slice lent to a walk, and the number that a call may write, hold the start of `filler`.
+    pub fn make(&mut self, call: &Call, filler: &[u16]) -> Refusal {
+        self.lent.fill(call.lent().iter().copied());
+        self.out.fill(filler[..call.room()].iter().copied());
+        self.value.fill(filler[..1].iter().copied());
+        call.archive(&mut self.memory.parts(), self.lent.lend(), self.out.lend(), &mut self.value.lend()[0])
+    }
+
+    /// What the call gave.
+    pub fn answer(&mut self, call: &Call, refusal: Refusal) -> Answer {
+        if refusal.number != 0 {
+            return crate::refuse(refusal.number, refusal.place.into());
+        }
+        let value = self.value.get()[0];
+        Ok(match call {
+            Call::Clear | Call::Close => Vec::new(),
+            Call::Load(..) => {
+                let [_, n, m, ..] = self.memory.parts().numbers;
+                vec![*n, *m]
+            }
+            Call::Ear(_) | Call::Parent { .. } => vec![value],
+            Call::Walk { .. } => {
+                let count = self.out.get().len().min(value.into());
+                [&[value], &self.out.get()[..count]].concat()
+            }
+        })
+    }
+
+    /// Nothing changed outside what is lent, nothing that is lent for reading, and by a refusal nothing at all; a walk
+    /// leaves the rest of its slice. `before` is the session as it was.
+    pub fn check(&self, call: &Call, filler: &[u16], before: &Session, refusal: Refusal) -> Result<(), Finding> {
+        if !self.memory.is_guarded() || ![&self.lent, &self.out, &self.value].iter().all(|lent| lent.is_guarded()) {
+            return Finding::of(Kind::Outside, "memory that was not lent has changed");
+        }
+        if self.lent.get() != call.lent() {
+            return Finding::of(Kind::Changed, "the numbers lent for reading have changed");
+        }
+        let value = self.value.get()[0];
+        let written = match call {
+            Call::Walk { .. } if refusal.number == 0 => usize::from(value),
+            _ => 0,
+        };
+        if self.out.get().get(written..) != filler[..call.room()].get(written..) {
+            return Finding::of(Kind::Changed, "the rest of the slice of a walk has changed");
+        }
+        if refusal.number != 0 && (!self.memory.holds(before) || value != filler[0]) {
+            return Finding::of(Kind::Changed, "a refusal has changed the session or an output");
+        }
+        Ok(())
+    }
+
+    /// Does what the fault says; `copy` is true of one side.
+    pub fn spoil(&mut self, fault: Fault, copy: bool, call: &Call, refusal: Refusal) {
+        let granted = refusal.number == 0;
+        match (fault, call) {
+            (Fault::Session, _) if !granted => self.memory.parts().tree3[1023] ^= 1,
+            (Fault::Behind, _) => *self.memory.behind() ^= 1,
+            (Fault::Lent, Call::Ear(ear)) if !ear.is_empty() => self.lent.lend()[0] ^= 1,
+            (Fault::Rest, Call::Walk { room, .. }) if granted && *room > self.value.get()[0].into() => {
+                let count = usize::from(self.value.get()[0]);
+                self.out.lend()[count] ^= 1;
+            }
+            (Fault::Copy, Call::Ear(_)) if granted && copy => self.memory.parts().tree1[1023] ^= 1,
+            _ => {}
+        }
+    }
+}

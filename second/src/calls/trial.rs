@@ -1,0 +1,192 @@
+//! One session of the archive, step by step: two copies of its memory, laid out in two ways, and the second program.
+//! Each step is checked; the first that shows a fault is told.
+
+use std::fmt::{Display, Formatter, Result as Written};
+
+use super::call::{Answer, Call};
+use super::known::wrong_field;
+use super::lengths::make_wrong;
+use super::lent::{Apart, Lengths, Memory, Whole, RIGHT};
+use super::memory::{leaves, may_answer};
+use super::overwrite::overwrite;
+use super::side::{Fault, Side};
+use crate::archive::{self, CLOSED, OPEN};
+use crate::session::Session;
+use crate::Plant;
+
+/// The most numbers that are lent to a walk.
+pub const MOST_ROOM: usize = 70_000;
+
+/// A step of a session, which can be made again.
+#[derive(Clone, Debug)]
+pub enum Step {
+    Call(Call),
+    /// The session's memory is overwritten, as the seed says.
+    Overwrite(u64),
+    /// The call is made on a copy of the session with arrays of these lengths.
+    Lengths(Call, Lengths),
+}
+
+/// What kind of fault a step shows; making its session small keeps to the kind.
+#[derive(Clone, Copy, Debug, PartialEq, Eq)]
+pub enum Kind {
+    /// The answer is not the second program's, or none that the call may give.
+    Answer,
+    /// A field is not what the second program knows.
+    Field,
+    /// Something that must stay has changed.
+    Changed,
+    /// Memory that was not lent has changed.
+    Outside,
+    /// Two equal copies became different.
+    Copies,
+    /// Arrays of other lengths than the struct's were not refused so.
+    Lengths,
+}
+
+#[derive(Clone, Debug)]
+pub struct Finding {
+    pub kind: Kind,
+    pub what: String,
+}
+
+impl Finding {
+    pub fn of<T>(kind: Kind, what: &str) -> Result<T, Finding> {
+        Err(Finding { kind, what: what.to_string() })
+    }
+}
+
+/// What a step did, for the counts.
+pub enum Done {
+    Answered { answer: Answer, known: bool },
+    Overwritten,
+    Lengths,
+}
+
+pub struct Trial {
+    whole: Side<Whole>,
+    apart: Side<Apart>,
+    /// The session as the last step left it.
+    before: Box<archive::Session>,
+    /// The second program's session, while it knows what the memory holds.
+    second: Option<Session>,
+    plant: Plant,
+    fault: Fault,
+    filler: Vec<u16>,
+}
+
+impl Trial {
+    /// The guards of the two copies differ in what they hold and in their number, and so the copies in their alignment.
+    pub fn new(plant: Plant, fault: Fault) -> Trial {
+        Trial {
+            whole: Side::new(Whole::new(32, 0xA5A5), 32, 0xA5A5, false),
+            apart: Side::new(Apart::new(33, 0x3C, RIGHT), 33, 0x3C3C, true),
+            before: Box::new(archive::Session::EMPTY),
+            second: Some(Session::Empty),
+            plant,
+            fault,
+            filler: (0..MOST_ROOM).map(|at| (at as u16).wrapping_mul(40503) ^ 0x5AA5).collect(),
+        }
+    }
+
+    pub fn second(&self) -> Option<&Session> {
+        self.second.as_ref()
+    }
+
+    pub fn memory(&self) -> &archive::Session {
+        &self.before
+    }
+
+    pub fn step(&mut self, step: &Step) -> Result<Done, Finding> {
+        match step {
+            Step::Call(call) => {
+                let known = self.second.is_some();
+                Ok(Done::Answered { answer: self.call(call)?, known })
+            }
+            Step::Overwrite(seed) => {
+                self.overwrite(*seed);
+                Ok(Done::Overwritten)
+            }
+            Step::Lengths(call, lengths) => {
+                make_wrong(&self.before, call, *lengths, &self.filler, self.fault)?;
+                Ok(Done::Lengths)
+            }
+        }
+    }
+
+    /// A session that reads as empty is the second program's empty one, whatever else it holds.
+    fn overwrite(&mut self, seed: u64) {
+        overwrite(&mut self.before, seed);
+        self.whole.memory.set(&self.before);
+        self.apart.memory.set(&self.before);
+        self.second = (![OPEN, CLOSED].contains(&self.before.stage)).then_some(Session::Empty);
+    }
+
+    fn call(&mut self, call: &Call) -> Result<Answer, Finding> {
+        let Trial { whole, apart, before, fault, filler, .. } = self;
+        let made = whole.make(call, filler);
+        whole.spoil(*fault, false, call, made);
+        whole.check(call, filler, before, made)?;
+        let copied = apart.make(call, filler);
+        apart.spoil(*fault, true, call, copied);
+        apart.check(call, filler, before, copied)?;
+        let answer = whole.answer(call, made);
+        let same = made == copied && answer == apart.answer(call, copied);
+        if !same || !apart.memory.holds(whole.memory.session()) {
+            return Finding::of(Kind::Copies, "the same call on two equal sessions differs");
+        }
+        self.judge(call, &answer)?;
+        if answer.is_ok() {
+            self.before.numbers_mut().copy_from_slice(self.whole.memory.session().numbers());
+        }
+        Ok(answer)
+    }
+
+    /// Holds the answer, and after a granted call the session, against what is known of them.
+    fn judge(&mut self, call: &Call, answer: &Answer) -> Result<(), Finding> {
+        let after = self.whole.memory.session();
+        if answer.is_ok() && !leaves(call, &self.before, after) {
+            return Finding::of(Kind::Changed, "a granted call has changed what it must leave");
+        }
+        if let Call::Clear = call {
+            self.second = Some(Session::Empty);
+        }
+        let Some(second) = &mut self.second else {
+            if !may_answer(call, &self.before, answer) {
+                return Finding::of(Kind::Answer, &format!("this answer may not come: {}", Told(answer)));
+            }
+            return Ok(());
+        };
+        let expected = call.second(second, self.plant);
+        if *answer != expected {
+            let what = format!("the archive answers {}, the second program {}", Told(answer), Told(&expected));
+            return Finding::of(Kind::Answer, &what);
+        }
+        match answer.as_ref().ok().and_then(|_| wrong_field(call, after, second)) {
+            Some(field) => Finding::of(Kind::Field, &format!("the session differs in {field}")),
+            None => Ok(()),
+        }
+    }
+}
+
+/// An answer as it is told.
+struct Told<'a>(&'a Answer);
+
+impl Display for Told<'_> {
+    fn fmt(&self, out: &mut Formatter) -> Written {
+        match self.0 {
+            Ok(values) => write!(out, "{values:?}"),
+            Err(refusal) => write!(out, "refusal {} at {}", refusal.number, refusal.place),
+        }
+    }
+}
+
+impl Display for Step {
+    fn fmt(&self, out: &mut Formatter) -> Written {
+        match self {
+            Step::Call(call) => write!(out, "{call}"),
+            Step::Overwrite(seed) => write!(out, "(the session is overwritten by seed {seed})"),
+            Step::Lengths(call, lengths) => write!(out, "{call} (with arrays of lengths {lengths:?})"),
+        }
+    }
+}
