@@ -1,0 +1,94 @@
+/* A switch that judges an ear list and sets its three forwarding tables: document 01's worked network, as in examples/worked.plan.
+ * The session is static and nothing is allocated. Exit status: 0, or 1 after a refusal that was not expected. */
+#include <stdio.h>
+#include <stdlib.h>
+
+#include "threeways.h"
+
+enum { TREES = 3, EARS = 3 };
+
+struct ear {
+    size_t count;
+    uint16_t switches[4];
+};
+
+/* The plan: 4 switches with root 0, first 1 and last 3, and an ear that a planner got wrong. */
+static const uint16_t links[] = { 0, 1, 0, 2, 0, 3, 1, 2, 1, 3, 2, 3 };
+static const struct ear wrong_ear = { 4, { 0, 2, 3, 1 } };
+static const struct ear ears[EARS] = { { 3, { 0, 2, 1 } }, { 3, { 2, 3, 1 } }, { 2, { 0, 3 } } };
+
+static struct threeways_session session;                /* zeros: the empty session */
+static uint16_t forward[TREES][THREEWAYS_MAX_SWITCHES]; /* by tree and switch: the next switch on the way to the root */
+
+/* Ends the program where a call was refused that should succeed. */
+static void require(const char *call, struct threeways_refusal refusal)
+{
+    if (refusal.number != 0) {
+        fprintf(stderr, "firmware: %s: refused %u at %u\n", call, (unsigned)refusal.number, (unsigned)refusal.place);
+        exit(EXIT_FAILURE);
+    }
+}
+
+static void print_switches(const uint16_t *switches, size_t count)
+{
+    for (size_t i = 0; i < count; i++)
+        printf(" %u", (unsigned)switches[i]);
+}
+
+/* Offers an ear, and prints what it is answered. After a refusal the session is as it was, and the next ear can be offered. */
+static struct threeways_refusal offer(const struct ear *ear)
+{
+    uint16_t new_switches = 0;
+    struct threeways_refusal refusal = threeways_ear(&session, ear->switches, ear->count, &new_switches);
+    printf("ear");
+    print_switches(ear->switches, ear->count);
+    if (refusal.number != 0)
+        printf(": refused %u at %u\n", (unsigned)refusal.number, (unsigned)refusal.place);
+    else
+        printf(": %u new\n", (unsigned)new_switches);
+    return refusal;
+}
+
+/* Loads the network and brings its ear list to the end. */
+static void judge(void)
+{
+    require("load", threeways_load(&session, 4, links, sizeof links / sizeof links[0], 0, 1, 3));
+    printf("network: %u switches, %u links\n", (unsigned)session.n, (unsigned)session.m);
+    if (offer(&wrong_ear).number == 0) {
+        fputs("firmware: the wrong ear was accepted\n", stderr);
+        exit(EXIT_FAILURE);
+    }
+    for (size_t i = 0; i < EARS; i++)
+        require("ear", offer(&ears[i]));
+    require("close", threeways_close(&session));
+}
+
+/* Sets the forwarding tables from a closed session. */
+static void set_forwarding(void)
+{
+    for (uint16_t tree = 1; tree <= TREES; tree++)
+        for (uint16_t s = 0; s < session.n; s++)
+            require("parent", threeways_parent(&session, s, tree, &forward[tree - 1][s]));
+}
+
+/* Prints the entries and the walks of a switch in the three trees. */
+static void print_routes(uint16_t s)
+{
+    static uint16_t walk[THREEWAYS_MAX_SWITCHES];
+    for (uint16_t tree = 1; tree <= TREES; tree++) {
+        uint16_t count = 0;
+        require("walk", threeways_walk(&session, s, tree, walk, THREEWAYS_MAX_SWITCHES, &count));
+        printf("switch %u, tree %u: next %u, walk", (unsigned)s, (unsigned)tree, (unsigned)forward[tree - 1][s]);
+        print_switches(walk, count);
+        putchar('\n');
+    }
+}
+
+int main(void)
+{
+    judge();
+    set_forwarding();
+    for (uint16_t s = 0; s < session.n; s++)
+        print_routes(s);
+    return EXIT_SUCCESS;
+}
