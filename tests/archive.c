@@ -1,0 +1,107 @@
+/* A session as memory, as the header and docs/FIRMWARE.md say: the offsets of the structs, when it is compiled; the rest, when it is run.
+ * Names each fact that does not hold. Exit status: 0 all hold, 1 one does not. */
+#include <stdio.h>
+#include <string.h>
+
+#include "threeways.h"
+
+#define AT(type, field, offset) typedef char type##_##field[offsetof(struct type, field) == (offset) ? 1 : -1]
+#define SESSION(field, offset) AT(threeways_session, field, offset)
+SESSION(stage, 0);
+SESSION(n, 2);
+SESSION(m, 4);
+SESSION(root, 6);
+SESSION(first, 8);
+SESSION(last, 10);
+SESSION(longs, 12);
+SESSION(born, 14);
+SESSION(links, 16);
+SESSION(used, 16400);
+SESSION(births, 20496);
+SESSION(order, 22544);
+SESSION(tree1, 24592);
+SESSION(tree2, 26640);
+SESSION(tree3, 28688);
+AT(threeways_refusal, number, 0);
+AT(threeways_refusal, place, 2);
+typedef char threeways_refusal_has_4_bytes[sizeof(struct threeways_refusal) == 4 ? 1 : -1];
+
+static const uint16_t links[] = { 0, 1, 0, 2, 0, 3, 1, 2, 1, 3, 2, 3 };
+static const uint16_t ears[3][3] = { { 0, 2, 1 }, { 2, 3, 1 }, { 0, 3 } };
+static struct threeways_session session, other, zeros;
+
+/* The session after load, and after its ears and close. The rest of each array is 0, of tree 3 after close it is n. */
+static const struct threeways_session loaded = { .stage = THREEWAYS_OPEN, .n = 4, .m = 6, .root = 0, .first = 1, .last = 3,
+    .links = { 0, 1, 0, 2, 0, 3, 1, 2, 1, 3, 2, 3 } };
+static struct threeways_session done = { .stage = THREEWAYS_CLOSED, .n = 4, .m = 6, .root = 0, .first = 1, .last = 3, .longs = 2,
+    .born = 4, .links = { 0, 1, 0, 2, 0, 3, 1, 2, 1, 3, 2, 3 }, .used = { 1, 1, 1, 1, 1, 1 }, .births = { 1, 1, 1, 2 },
+    .order = { 0, 2, 3, 1 }, .tree1 = { 0, 2, 0, 2 }, .tree2 = { 0, 0, 1, 1 }, .tree3 = { 0, 3, 3, 0 } };
+
+static uint16_t out[4] = { 9, 9, 9, 9 }, count = 9;
+static int failed;
+
+static void hold(int fact, const char *what)
+{
+    if (!fact) {
+        printf("does not hold: %s\n", what);
+        failed = 1;
+    }
+}
+
+static int is(struct threeways_refusal r, unsigned number, unsigned place) { return r.number == number && r.place == place; }
+
+static int same(const struct threeways_session *a, const struct threeways_session *b) { return memcmp(a, b, sizeof *a) == 0; }
+
+static struct threeways_refusal load(struct threeways_session *s) { return threeways_load(s, 4, links, 12, 0, 1, 3); }
+
+static void empty_session(void)
+{
+    hold(is(threeways_load(&session, 4, NULL, 0, 0, 1, 3), 1, 0), "load of no links at NULL is 1 at 0");
+    hold(same(&session, &zeros), "a refused load leaves zeros");
+    memset(&session, 0xa5, sizeof session);
+    hold(is(threeways_ear(&session, ears[0], 3, &count), 19, 0) && count == 9, "any other stage is empty: ear is 19 at 0");
+    hold(is(threeways_clear(&session), 0, 0) && same(&session, &zeros), "clear leaves zeros of any memory");
+    session.stage = 3;
+    hold(is(load(&session), 0, 0) && same(&session, &loaded), "any other stage is empty: load succeeds, and fills the fields");
+    session = zeros;
+    hold(is(load(&session), 0, 0) && same(&session, &loaded), "zeros are an empty session: load succeeds, and fills the fields");
+}
+
+static void open_session(void)
+{
+    other = session;
+    hold(is(threeways_ear(&session, NULL, 0, &count), 7, 0), "an ear of no numbers at NULL is 7 at 0");
+    hold(is(threeways_ear(&session, ears[1], 3, &count), 12, 0), "a wrong first ear is 12 at 0");
+    hold(is(threeways_close(&session), 23, 0), "close with no ear is 23 at 0");
+    hold(is(threeways_walk(&session, 2, 3, out, 4, &count), 21, 0), "walk of an open session is 21 at 0");
+    hold(same(&session, &other) && count == 9 && out[0] == 9, "a refusal leaves session and outputs");
+    memset(&session, 0xff, sizeof session);
+    for (size_t i = done.n; i < THREEWAYS_MAX_SWITCHES; i++)
+        done.tree3[i] = done.n;
+    for (size_t i = 0; i < 3; i++)
+        hold(is(threeways_ear(&other, ears[i], i < 2 ? 3 : 2, &count), 0, 0), "a copy is a session: ear succeeds");
+    hold(is(threeways_close(&other), 0, 0) && same(&other, &done), "a copy is a session: close succeeds, and the fields are filled");
+}
+
+static void closed_session(void)
+{
+    const struct threeways_session *s = &other;
+    count = 9;
+    hold(is(threeways_parent(s, 4, 1, out), 17, 0) && out[0] == 9, "parent of a switch that is not there is 17 at 0");
+    hold(is(threeways_walk(s, 2, 3, NULL, 0, &count), 18, 0), "a walk with no room at NULL is 18 at 0");
+    hold(is(threeways_walk(s, 2, 3, out, 2, &count), 18, 0) && out[0] == 9 && count == 9, "a walk with little room leaves the outputs");
+    hold(is(threeways_parent_in(s->stage, s->n, s->m, s->root, s->first, s->last, s->longs, s->born, s->tree1, 1023,
+        THREEWAYS_ARRAY(s->tree2), THREEWAYS_ARRAY(s->tree3), 2, 3, out), THREEWAYS_LENGTHS, 0) && out[0] == 9, "an array of another length is 255 at 0");
+    hold(is(threeways_walk(s, 2, 3, out, 4, &count), 0, 0) && count == 3, "the walk of 2 in tree 3 has 3 switches");
+    hold(out[0] == 2 && out[1] == 3 && out[2] == 0 && out[3] == 9, "the walk is 2 3 0, and the rest of the slice is left");
+    hold(same(&other, &done), "parent and walk leave the session");
+    hold(is(threeways_clear(&other), 0, 0) && same(&other, &zeros), "clear leaves zeros of a closed session");
+}
+
+int main(void)
+{
+    empty_session();
+    open_session();
+    closed_session();
+    return failed;
+}
