@@ -1,0 +1,197 @@
+/* Makes the calls of a plan through include/threeways.h: load, its ears and close, then parent and walk of every switch, then clear.
+ * Call: archive calls PLAN or archive stack PLAN. A line for each call: name, refusal (0: none), length, bytes of stack (calls: 0). */
+#include <stdio.h>
+#include <stdlib.h>
+#include <string.h>
+#include <sys/mman.h>
+#include <ucontext.h>
+
+#include "threeways.h"
+
+enum { LINE = 6146, MAX_EARS = 4096, EAR_NUMBERS = 16384, ANY = 65535, STACK = 4 << 20, GUARD = 4096 };
+
+#define PAINT UINT64_C(0xa5a5a5a5a5a5a5a5)
+
+/* The plan: net has N, root, first and last; ear i has the numbers from start[i] to start[i + 1]. */
+static uint16_t net[4], links[2 * THREEWAYS_MAX_LINKS], numbers[EAR_NUMBERS];
+static size_t links_count, ears, start[MAX_EARS + 1];
+
+/* The session, what a call is given beside it, and what it gives. */
+static struct threeways_session session;
+static const uint16_t *ear;
+static size_t ear_count, room = THREEWAYS_MAX_SWITCHES;
+static uint16_t switch_number, tree, result, out[ANY];
+static struct threeways_refusal refusal;
+
+/* The painted stack, the way to it and back, and what is run on it. */
+static uint64_t *stack;
+static size_t above;                                    /* bytes from its top to the return address of what is run, that one too */
+static ucontext_t outside, inside;
+static void (*running)(void);
+
+static void fail(const char *what)
+{
+    fprintf(stderr, "bench/archive: %s\n", what);
+    exit(EXIT_FAILURE);
+}
+
+/* The calls that are measured, each in a function of its own. */
+#define CALL(name, call) __attribute__((noinline)) static void measured_##name(void) { refusal = call; }
+CALL(clear, threeways_clear(&session))
+CALL(load, threeways_load(&session, net[0], links, links_count, net[1], net[2], net[3]))
+CALL(ear, threeways_ear(&session, ear, ear_count, &result))
+CALL(close, threeways_close(&session))
+CALL(parent, threeways_parent(&session, switch_number, tree, &result))
+CALL(walk, threeways_walk(&session, switch_number, tree, out, room, &result))
+
+/* Writes the numbers of a line, and gives their count. */
+static size_t read_numbers(const char *line, uint16_t *to, size_t most)
+{
+    size_t count = 0;
+    for (const char *at = line + strcspn(line, "0123456789"); *at; at += strcspn(at, "0123456789")) {
+        char *end;
+        unsigned long number = strtoul(at, &end, 10);
+        if (count == most || number > UINT16_MAX)
+            fail("a line of the plan has too many or too large numbers");
+        to[count++] = (uint16_t)number;
+        at = end;
+    }
+    return count;
+}
+
+static int is(const char *line, const char *word) { return strncmp(line, word, strlen(word)) == 0; }
+
+/* Takes a line of the plan. Lines of open, close and walk are passed over: every plan is loaded, closed and asked in the same way. */
+static void read_line(const char *line)
+{
+    if (is(line, "(net ")) {
+        if (read_numbers(line, net, 4) != 4)
+            fail("a net line has four numbers");
+    } else if (is(line, "(link ")) {
+        size_t left = 2 * THREEWAYS_MAX_LINKS - links_count;
+        if (read_numbers(line, links + links_count, left < 2 ? left : 2) != 2)
+            fail("a link line has two numbers");
+        links_count += 2;
+    } else if (is(line, "(ear")) {
+        if (ears == MAX_EARS)
+            fail("the plan has too many ears");
+        start[ears + 1] = start[ears] + read_numbers(line, numbers + start[ears], EAR_NUMBERS - start[ears]);
+        ears++;
+    } else if (!is(line, "(open)") && !is(line, "(close)") && !is(line, "(walk ")) {
+        fail("the plan has a line that is no net, link, open, ear, close or walk");
+    }
+}
+
+static void read_plan(const char *path)
+{
+    static char line[LINE];
+    FILE *file = fopen(path, "r");
+    if (file == NULL)
+        fail("the plan cannot be opened");
+    while (fgets(line, sizeof line, file) != NULL)
+        read_line(line);
+    if (ferror(file))
+        fail("the plan cannot be read");
+    fclose(file);
+}
+
+/* A stack of its own, with a page below it that cannot be written. */
+static void make_stack(void)
+{
+    char *memory = mmap(NULL, GUARD + STACK, PROT_READ | PROT_WRITE, MAP_PRIVATE | MAP_ANONYMOUS, -1, 0);
+    if (memory == MAP_FAILED || mprotect(memory, GUARD, PROT_NONE) != 0)
+        fail("no memory for a stack");
+    stack = (uint64_t *)(memory + GUARD);
+    for (size_t i = 0; i < STACK / sizeof *stack; i++)
+        stack[i] = PAINT;
+}
+
+/* Notes where a function begins that is run on the painted stack. Its return address stands above the word at its frame address. */
+__attribute__((noinline)) static void note_above(void)
+{
+    char *top = (char *)stack + STACK, *frame = __builtin_frame_address(0);
+    above = (size_t)(top - frame) - sizeof(void *);
+}
+
+static void run(void) { running(); }
+
+/* Runs a function on the painted stack, gives the bytes from the top to the deepest that was changed, and paints them again. */
+static size_t depth(void (*call)(void))
+{
+    const size_t words = STACK / sizeof *stack;
+    size_t low = 0;
+    running = call;
+    getcontext(&inside);
+    inside.uc_stack.ss_sp = stack;
+    inside.uc_stack.ss_size = STACK;
+    inside.uc_link = &outside;
+    makecontext(&inside, run, 0);
+    swapcontext(&outside, &inside);
+    while (low < words && stack[low] == PAINT)
+        low++;
+    for (size_t i = low; i < words; i++)
+        stack[i] = PAINT;
+    return (words - low) * sizeof *stack;
+}
+
+/* Makes a call, on the painted stack if there is one, and gives the bytes of stack below the return address of its caller. */
+static size_t make(void (*call)(void))
+{
+    if (stack != NULL)
+        return depth(call) - above;
+    call();
+    return 0;
+}
+
+static void report(const char *name, size_t length, size_t bytes)
+{
+    printf("%s %u %zu %zu\n", name, (unsigned)refusal.number, length, bytes);
+}
+
+static void ask(uint16_t s, uint16_t t)
+{
+    switch_number = s;
+    tree = t;
+    report("parent", 0, make(measured_parent));
+    size_t bytes = make(measured_walk);
+    report("walk", refusal.number == 0 ? result : 0, bytes);
+}
+
+/* A walk that never meets the root, as far as 16 bits count, with room for a network's walks and with room for all of it: the same on every
+ * network, so it is asked on the smallest alone. */
+static void ask_overwritten(void)
+{
+    session.n = session.root = ANY;
+    switch_number = 0;
+    tree = 1;
+    size_t bytes = make(measured_walk);
+    report("overwritten-walk", 0, bytes);
+    room = ANY;
+    bytes = make(measured_walk);
+    report("overwritten-walk", refusal.number == 0 ? result : 0, bytes);
+}
+
+int main(int count, char **words)
+{
+    if (count != 3 || (strcmp(words[1], "calls") != 0 && strcmp(words[1], "stack") != 0))
+        fail("usage: archive calls|stack PLAN");
+    read_plan(words[2]);
+    if (strcmp(words[1], "stack") == 0) {
+        make_stack();
+        depth(note_above);
+    }
+    report("load", links_count / 2, make(measured_load));
+    for (size_t i = 0; i < ears; i++) {
+        ear = numbers + start[i];
+        ear_count = start[i + 1] - start[i];
+        report("ear", ear_count, make(measured_ear));
+    }
+    report("close", 0, make(measured_close));
+    for (uint16_t t = 1; t <= 3; t++)
+        for (uint16_t s = 0; s < net[0]; s++)
+            ask(s, t);
+    if (session.stage == THREEWAYS_CLOSED && session.n == THREEWAYS_MIN_SWITCHES)
+        ask_overwritten();
+    report("clear", 0, make(measured_clear));
+    return EXIT_SUCCESS;
+}
