@@ -107,7 +107,7 @@ pub fn open(
 {
     let d = r.kept;
     let numbers = rows::least(2 * (d.count as usize), links.len());
-    let loaded = in_place::load(
+    let loaded = loading::load(
         st,
         d.n,
         &links[..numbers],
@@ -219,7 +219,7 @@ pub fn clear(
     ensures { λ c. ⌜ repliedIn (c .reader) (sessionIn (c .state) (now (table .exit)) (now (used .exit)) (now (births .exit)) (now (order .exit)) (now (tree1 .exit)) (now (tree2 .exit)) (now (tree3 .exit))) (take (c .written) (now (out .exit))) ≡ repliedBy r freshKept emptySession cleared ⌝ }
     ensures { λ c. ⌜ Keeps (c .written) (now (out .entry)) (now (out .exit)) × IndexedIn (c .state) (now (table .exit)) (now (index .exit)) ⌝ }
 {
-    let state = in_place::clear(table, used, births, order, tree1, tree2, tree3, index);
+    let state = loading::clear(table, used, births, order, tree1, tree2, tree3, index);
     let written = replies::write_cleared(out);
     let kept = Kept::fresh();
     let mut dropped = r;

@@ -1,4 +1,3 @@
 pub mod Answers
-pub mod Loads
 pub mod Stores
 pub mod Queries

@@ -1,85 +1,18 @@
--- What the code stores is the session that the definitions say: arrays of zeros, and a network with its table and its index.
--- A refused load leaves the index.
-use mathlib.Core.Path.{_≡_, refl, sym, ap, _∙_, subst}
-use mathlib.Core.List.{List, []}
-use Prim.Native.Nat.{ℕ, _*_, _-_, _/_}
-use native.Mathlib.Omega.{arith}
-use lib.ListN.{length, take}
-use lib.Seq.{take-at}
-use Rattle.mondschein.specs.Network.{size}
+-- Ear and close leave M, and with it the index of the links that are stored.
+-- So do their refusals, which leave the session.
+use mathlib.Core.Path.{_≡_, refl, sym, subst}
+use mathlib.Core.List.{List}
+use Prim.Native.Nat.{ℕ, _*_}
+use lib.ListN.{take}
 use Rattle.mondschein.specs.Judge.{Answer, given, refused}
 use Rattle.mondschein.specs.Outcome.{granted, settle}
-use Rattle.network.specs.Load.{networkOf, tableOf}
+use Rattle.network.specs.Load.{tableOf}
 use Rattle.network.specs.Index.{Indexed}
-use Rattle.tables.specs.Tables.{tablesOf}
-use Rattle.in_place.specs.declared.Stage.{Stage}
-use Rattle.in_place.specs.declared.Stage.the-variants.{Empty, Open}
 use Rattle.in_place.specs.declared.Session.{Session}
 use Rattle.in_place.specs.declared.State.{State}
-use Rattle.in_place.specs.Session.{Stored, sessionOf, zeros, padded, noTables, noneStored, storedOf, emptySession, openedWith, offeredBy, closedBy}
-use Rattle.in_place.specs.InPlace.{sessionIn, emptyState, SizedAs, Paired, IndexedIn, KeepsIndex}
+use Rattle.in_place.specs.Session.{offeredBy, closedBy}
+use Rattle.in_place.specs.InPlace.{IndexedIn}
 
--- an answer is not both
-given-refused : {vs : List ℕ} {num place : ℕ} → given vs ≡ refused num place → ⊥
-given-refused q = let z : _≡_ {A = ℕ} 0 1 = ap told q in omega arith
-  where
-    told : Answer → ℕ
-    told (given _) = 0
-    told (refused _ _) = 1
-
--- the state that has loaded a network
-abbrev pub openState : ℕ → List ℕ → ℕ → ℕ → ℕ → State
-openState n links root first last =
-    record { stage = Open; n = n; m = length links / 2; root = root; first = first; last = last; longs = 0; born = 0 }
-
--- arrays of zeros, of the lengths that a session's have
-module _ {l u b o p q t : List ℕ} (z : SizedAs l u b o p q t) {u′ b′ o′ p′ q′ t′ : List ℕ}
-    (e : (u′ ≡ zeros (length u)) × (b′ ≡ zeros (length b)) × (o′ ≡ zeros (length o)) × (p′ ≡ zeros (length p)) × (q′ ≡ zeros (length q)) × (t′ ≡ zeros (length t))) where
-  cleared : (stage : Stage) (k : Stored) → sessionOf stage k (tablesOf u′ 0 b′ 0 o′ p′ q′) t′ ≡ sessionOf stage k noTables (zeros 1024)
-  cleared stage k =
-      ap (λ (x : List ℕ). sessionOf stage k (tablesOf x 0 b′ 0 o′ p′ q′) t′) (e .0 ∙ ap zeros (z .used))
-      ∙ ap (λ (x : List ℕ). sessionOf stage k (tablesOf (zeros 4096) 0 x 0 o′ p′ q′) t′) (e .1 ∙ ap zeros (z .births))
-      ∙ ap (λ (x : List ℕ). sessionOf stage k (tablesOf (zeros 4096) 0 (zeros 1024) 0 x p′ q′) t′) (e .2 ∙ ap zeros (z .order))
-      ∙ ap (λ (x : List ℕ). sessionOf stage k (tablesOf (zeros 4096) 0 (zeros 1024) 0 (zeros 1024) x q′) t′) (e .3 ∙ ap zeros (z .tree1))
-      ∙ ap (λ (x : List ℕ). sessionOf stage k (tablesOf (zeros 4096) 0 (zeros 1024) 0 (zeros 1024) (zeros 1024) x) t′) (e .4 ∙ ap zeros (z .tree2))
-      ∙ ap (λ (x : List ℕ). sessionOf stage k noTables x) (e .5 ∙ ap zeros (z .tree3))
-
-  -- with no network
-  pub emptied : {r : State} {l′ : List ℕ} → r ≡ emptyState → l′ ≡ zeros (length l) → sessionIn r l′ u′ b′ o′ p′ q′ t′ ≡ emptySession
-  emptied {r} {l′} a f =
-      ap (λ (st : State). sessionIn st l′ u′ b′ o′ p′ q′ t′) a
-      ∙ ap (λ (x : List ℕ). sessionIn emptyState x u′ b′ o′ p′ q′ t′) (f ∙ ap zeros (z .links))
-      ∙ cleared Empty noneStored
-
-  -- with a network
-  pub stored : (n : ℕ) (links : List ℕ) (root first last : ℕ) {l′ : List ℕ} → l′ ≡ padded (length l) links
-      → sessionIn (openState n links root first last) l′ u′ b′ o′ p′ q′ t′ ≡ openedWith (networkOf n links root first last)
-  unfolding openedWith size
-  stored n links root first last f =
-      ap (λ (x : List ℕ). sessionIn (openState n links root first last) x u′ b′ o′ p′ q′ t′) (f ∙ ap (λ (k : ℕ). padded k links) (z .links))
-      ∙ cleared Open (storedOf (networkOf n links root first last))
-
--- the index of the numbers that were lent is that of the links that are stored
-pub index-stored : (n : ℕ) (links : List ℕ) (root first last c : ℕ) {l′ index : List ℕ} → Paired links → l′ ≡ padded c links → Indexed (tableOf links) index
-    → IndexedIn (openState n links root first last) l′ index
-index-stored n links root first last c {l′} {index} w f i =
-    let back : take (2 * (length links / 2)) l′ ≡ links =
-    ap (take (2 * (length links / 2))) f ∙ take-at links (zeros (c - length links)) (2 * (length links / 2)) (sym (w .whole)) in
-    subst (λ (x : List ℕ). Indexed (tableOf x) index) (sym back) i
-
--- the index of no link
-pub index-none : {r : State} {index : List ℕ} → r ≡ emptyState → Indexed (tableOf []) index → (l′ : List ℕ) → IndexedIn r l′ index
-index-none {index = index} q i l′ = subst (λ (st : State). IndexedIn st l′ index) (sym q) i
-
--- a refusal leaves it
-pub index-left : (st : State) (l index : List ℕ) (a : Answer) {st′ : State} → st′ ≡ st → KeepsIndex st l index a st′ l index
-index-left st l index a q = record { keeps = λ i. subst (λ (s : State). IndexedIn s l index) (sym q) i; leaves = λ num place _. refl }
-
--- a network that is loaded has its own
-pub index-loaded : {st st′ : State} {l l′ index index′ vs : List ℕ} → IndexedIn st′ l′ index′ → KeepsIndex st l index (given vs) st′ l′ index′
-index-loaded i = record { keeps = λ _. i; leaves = λ num place q. absurd (given-refused q) }
-
--- ear and close leave M, and with it the index
 m-left : (s next : Session) → next .m ≡ s .m → (a : Answer) → settle s next a .after .m ≡ s .m
 unfolding settle granted
 m-left s next q (given vs) = q

@@ -6,7 +6,7 @@ use mathlib.Core.Logic.{⊎-elim, inl, inr}
 use mathlib.Core.List.{List, [], _∷_, foldl}
 use Prim.Native.Nat.{ℕ}
 use Rattle.mondschein.specs.Network.{In, low, any, holds}
-use Rattle.mondschein.specs.Judge.{Answer, given, refused}
+use Rattle.mondschein.specs.Judge.{Answer, refused}
 use Rattle.mondschein.specs.Outcome.{Outcome, settle}
 use Rattle.mondschein.proofs.Logic.{clash}
 use Rattle.mondschein.proofs.Lists.{in-holds}

@@ -7,7 +7,7 @@ use Rattle.mondschein.specs.Judge.{refused}
 use Rattle.mondschein.specs.Outcome.{Outcome}
 use Rattle.machine.specs.Machine.{Call, Program}
 use Rattle.in_place.specs.declared.Session.{Session}
-use Rattle.in_place.specs.Session.{emptySession, zeros}
+use Rattle.in_place.specs.Session.{zeros}
 use Rattle.in_place.specs.Queries.{parentBy, walkedBy}
 use Rattle.session.specs.Calls.{called}
 use Rattle.session.specs.Program.{keptOrder, sizeIn}

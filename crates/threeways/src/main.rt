@@ -168,7 +168,7 @@ fn run(
     ensures { λ k. ⌜ EndsWith (k .end) (k .reader) (sessionIn (k .state) (now (table .exit)) (now (used .exit)) (now (births .exit)) (now (order .exit)) (now (tree1 .exit)) (now (tree2 .exit)) (now (tree3 .exit))) (now (links .exit)) (now (line .exit)) ⌝ }
 {
     let mut reader = Reader::start();
-    let mut state = in_place::clear(table, used, births, order, tree1, tree2, tree3, index);
+    let mut state = loading::clear(table, used, births, order, tree1, tree2, tree3, index);
     let mut turns = u64::MAX;
     while 0 < turns {
         turns -= 1;

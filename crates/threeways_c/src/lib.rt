@@ -11,7 +11,6 @@ use network::Load;
 use tables::Close;
 use walks::Parent;
 use walks::Walk;
-ghost use mathlib.Core.Path.{_≡_};
 ghost use Rattle.network.specs.Load.{networkOf};
 ghost use Rattle.memory.specs.Memory.{numbersBy, memoryBy};
 ghost use Rattle.threeways_c.specs.Calls.{Clears, Loads, Offers, Closes, Tells, WritesWalk};
@@ -61,7 +60,7 @@ pub extern "C" fn threeways_clear_in(
         };
     }
     let mut none = [0u16; 0];
-    let state = in_place::clear(links, used, births, order, tree1, tree2, tree3, &mut none);
+    let state = loading::clear(links, used, births, order, tree1, tree2, tree3, &mut none);
     memory::put_state(state, stage, n, m, root, first, last, longs, born);
     Refusal {
         number: 0,
@@ -120,7 +119,7 @@ pub extern "C" fn threeways_load_in(
     }
     let st = memory::state_of(*stage, *n, *m, *root, *first, *last, *longs, *born);
     let mut none = [0u16; 0];
-    let loaded = in_place::load(
+    let loaded = loading::load(
         st,
         new_n,
         new_links,

@@ -4,7 +4,6 @@ use Prim.Native.Nat.{ℕ}
 use Rattle.mondschein.specs.Outcome.{Outcome}
 use Rattle.tables.specs.Tables.{closeAnswer}
 use Rattle.in_place.specs.declared.Session.{Session}
-use Rattle.in_place.specs.declared.State.{State}
 use Rattle.in_place.specs.InPlace.{sessionIn}
 use Rattle.in_place.proofs.Stores.{closed-m}
 use Rattle.replies.specs.Replies.{closed, reply}

@@ -6,7 +6,6 @@ use Rattle.mondschein.specs.Network.{at}
 use Rattle.mondschein.specs.Outcome.{Outcome}
 use Rattle.judge.specs.Ear.{earAnswer}
 use Rattle.in_place.specs.declared.Session.{Session}
-use Rattle.in_place.specs.declared.State.{State}
 use Rattle.in_place.specs.InPlace.{sessionIn}
 use Rattle.in_place.specs.Session.{offeredBy}
 use Rattle.in_place.proofs.Stores.{offered-m, index-kept}

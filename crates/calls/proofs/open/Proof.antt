@@ -6,7 +6,6 @@ use Rattle.mondschein.specs.Network.{at}
 use Rattle.mondschein.specs.Outcome.{Outcome}
 use Rattle.network.specs.Load.{networkOf, loadAnswer}
 use Rattle.in_place.specs.declared.Session.{Session}
-use Rattle.in_place.specs.declared.State.{State}
 use Rattle.in_place.specs.InPlace.{sessionIn}
 use Rattle.in_place.specs.Session.{loadedBy}
 use Rattle.replies.specs.Replies.{opened}

@@ -5,7 +5,6 @@ use lib.ListN.{take, replicate}
 use Rattle.mondschein.specs.Network.{at}
 use Rattle.mondschein.specs.Outcome.{Outcome}
 use Rattle.in_place.specs.declared.Session.{Session}
-use Rattle.in_place.specs.declared.State.{State}
 use Rattle.in_place.specs.InPlace.{sessionIn}
 use Rattle.in_place.specs.Queries.{walkedBy}
 use Rattle.replies.specs.Replies.{Reply, walked}

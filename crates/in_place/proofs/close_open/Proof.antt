@@ -1,15 +1,15 @@
-use mathlib.Core.Path.{sym, ap, _∙_, refl}
+use mathlib.Core.Path.{sym, ap, _∙_}
 use mathlib.Core.List.{List}
 use Prim.Native.Nat.{ℕ, _≤_}
 use native.Mathlib.Omega.{arith}
 use lib.ListN.{length, take}
-use Rattle.mondschein.specs.Outcome.{Outcome, settle}
+use Rattle.mondschein.specs.Outcome.{Outcome}
 use Rattle.tables.specs.Tables.{closeAnswer}
 use Rattle.in_place.specs.declared.Session.{Session}
 use Rattle.in_place.specs.declared.ClosedIn.{ClosedIn}
-use Rattle.in_place.specs.Session.{closedWith, closedBy}
+use Rattle.in_place.specs.Session.{closedWith}
 use Rattle.in_place.specs.InPlace.{sessionIn}
-use Rattle.in_place.proofs.Answers.{table-whole, closing-lent, tree3-lent, after-refused, after-given, on-empty, on-open, on-closed}
+use Rattle.in_place.proofs.Answers.{table-whole, closing-lent, tree3-lent, after-refused, after-given}
 use borrow.Author.Needs.{needs}
 use Rattle.in_place.proofs.close_open.Statement.{statement}
 use Rattle.in_place.proofs.close_open.Tie as tie

@@ -5,9 +5,9 @@ use Rattle.mondschein.specs.Outcome.{Outcome, settle}
 use Rattle.judge.specs.Ear.{earAnswer}
 use Rattle.in_place.specs.declared.Session.{Session}
 use Rattle.in_place.specs.declared.OfferedIn.{OfferedIn}
-use Rattle.in_place.specs.Session.{withTables, offeredBy}
+use Rattle.in_place.specs.Session.{offeredBy}
 use Rattle.in_place.specs.InPlace.{sessionIn}
-use Rattle.in_place.proofs.Answers.{table-whole, index-lent, verdict-lent, after-lent, accepted-two, after-refused, after-given, on-empty, on-open, on-closed}
+use Rattle.in_place.proofs.Answers.{after-refused, on-empty, on-open, on-closed}
 use borrow.Author.Needs.{needs}
 use Rattle.in_place.proofs.ear.Statement.{statement}
 use Rattle.in_place.proofs.ear.Tie as tie

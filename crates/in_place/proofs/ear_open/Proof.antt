@@ -1,13 +1,13 @@
-use mathlib.Core.Path.{sym, ap, _∙_, refl}
+use mathlib.Core.Path.{sym, ap, _∙_}
 use mathlib.Core.List.{List}
 use Prim.Native.Nat.{ℕ}
-use Rattle.mondschein.specs.Outcome.{Outcome, settle}
+use Rattle.mondschein.specs.Outcome.{Outcome}
 use Rattle.judge.specs.Ear.{earAnswer}
 use Rattle.in_place.specs.declared.Session.{Session}
 use Rattle.in_place.specs.declared.OfferedIn.{OfferedIn}
-use Rattle.in_place.specs.Session.{withTables, offeredBy}
+use Rattle.in_place.specs.Session.{withTables}
 use Rattle.in_place.specs.InPlace.{sessionIn}
-use Rattle.in_place.proofs.Answers.{table-whole, index-lent, verdict-lent, after-lent, accepted-two, after-refused, after-given, on-empty, on-open, on-closed}
+use Rattle.in_place.proofs.Answers.{table-whole, index-lent, verdict-lent, after-lent, accepted-two, after-refused, after-given}
 use borrow.Author.Needs.{needs}
 use Rattle.in_place.proofs.ear_open.Statement.{statement}
 use Rattle.in_place.proofs.ear_open.Tie as tie

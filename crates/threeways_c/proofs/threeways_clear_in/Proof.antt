@@ -1,16 +1,15 @@
 use mathlib.Core.Path.{_≡_, refl, sym, ap, _∙_}
 use mathlib.Core.Bool.{false}
-use mathlib.Core.List.{List, []}
-use Prim.Native.Nat.{ℕ}
+use mathlib.Core.List.{[]}
 use lib.ListN.{length}
 use Rattle.mondschein.specs.Judge.{given}
 use Rattle.mondschein.specs.Outcome.{granted, settle}
 use Rattle.in_place.specs.declared.Session.{Session}
-use Rattle.in_place.specs.Session.{emptySession, clearedBy}
+use Rattle.in_place.specs.Session.{clearedBy}
 use Rattle.in_place.specs.InPlace.{sessionIn}
 use Rattle.session.specs.Calls.{called}
 use Rattle.memory.specs.Program.{calledIn}
-use Rattle.memory.specs.Memory.{Memory, numbersBy, memoryBy, sessionAt, wrongLengths}
+use Rattle.memory.specs.Memory.{Memory, numbersBy, memoryBy, wrongLengths}
 use Rattle.memory.proofs.Returns.{lengths-wrong, lengths-right, granting-call, sizes}
 use borrow.Author.Needs.{needs}
 use Rattle.threeways_c.proofs.threeways_clear_in.Statement.{statement}

@@ -3,7 +3,6 @@ use mathlib.Core.Bool.{false}
 use mathlib.Core.List.{List}
 use Prim.Native.Nat.{ℕ}
 use lib.ListN.{length}
-use Rattle.mondschein.specs.Outcome.{Outcome}
 use Rattle.tables.specs.declared.Close.{Close}
 use Rattle.tables.specs.Tables.{closeAnswer}
 use Rattle.in_place.specs.declared.Session.{Session}
@@ -12,7 +11,7 @@ use Rattle.in_place.specs.Session.{closedBy}
 use Rattle.in_place.specs.InPlace.{sessionIn}
 use Rattle.session.specs.Calls.{called}
 use Rattle.memory.specs.Program.{calledIn}
-use Rattle.memory.specs.Memory.{Memory, numbersBy, memoryBy, sessionAt, wrongLengths, outputOf}
+use Rattle.memory.specs.Memory.{Memory, numbersBy, memoryBy, sessionAt, wrongLengths}
 use Rattle.memory.proofs.Returns.{close-leaves, lengths-wrong, lengths-right, refusing-call, granting-call, close-numbers, lengths-close, right}
 use borrow.Author.Needs.{needs}
 use Rattle.threeways_c.proofs.threeways_close_in.Statement.{statement}

@@ -4,7 +4,6 @@ use mathlib.Core.List.{List}
 use Prim.Native.Nat.{ℕ}
 use lib.ListN.{length}
 use Rattle.mondschein.specs.Outcome.{Outcome}
-use Rattle.walks.specs.declared.Walk.{Walk}
 use Rattle.walks.specs.Walks.{walkAnswer}
 use Rattle.in_place.specs.declared.State.{State}
 use Rattle.in_place.specs.InPlace.{sessionIn}

@@ -1,8 +1,8 @@
 use mathlib.Core.Path.{sym}
-use Rattle.in_place.proofs.Loads.{few-switches, many-switches, few-links, many-links, half-link}
+use Rattle.loading.proofs.Loads.{few-switches, many-switches, few-links, many-links, half-link}
 use borrow.Author.Needs.{needs}
-use Rattle.in_place.proofs.wrong_size.Statement.{statement}
-use Rattle.in_place.proofs.wrong_size.Tie as tie
+use Rattle.loading.proofs.wrong_size.Statement.{statement}
+use Rattle.loading.proofs.wrong_size.Tie as tie
 
 returns : tie.Need-returns
 returns c = sym (few-switches (c .before .args .n) (c .before .args .links .now) (c .if1 .taken))

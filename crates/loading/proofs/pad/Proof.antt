@@ -4,10 +4,10 @@ use mathlib.Core.List.{List}
 use native.Mathlib.Omega.{arith}
 use lib.ListN.{length, getD, set, length-set}
 use borrow.Author.Needs.{needs}
 use Rattle.in_place.specs.Session.{padded}
-use Rattle.in_place.proofs.Loads.{copied, copied-none, copied-more, copied-all, zeros-length}
-use Rattle.in_place.proofs.pad.Statement.{statement}
-use Rattle.in_place.proofs.pad.Tie as tie
+use Rattle.loading.proofs.Loads.{copied, copied-none, copied-more, copied-all, zeros-length}
+use Rattle.loading.proofs.pad.Statement.{statement}
+use Rattle.loading.proofs.pad.Tie as tie
 
 abbrev Inv-loop : tie.InvT-loop
 Inv-loop row₀ numbers i₀ row i =

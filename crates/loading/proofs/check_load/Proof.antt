@@ -1,9 +1,9 @@
 use mathlib.Core.Path.{sym, _∙_}
 use native.Mathlib.Omega.{arith}
-use Rattle.in_place.proofs.Loads.{right-size, load-1, load-rest}
+use Rattle.loading.proofs.Loads.{right-size, load-1, load-rest}
 use borrow.Author.Needs.{needs}
-use Rattle.in_place.proofs.check_load.Statement.{statement}
-use Rattle.in_place.proofs.check_load.Tie as tie
+use Rattle.loading.proofs.check_load.Statement.{statement}
+use Rattle.loading.proofs.check_load.Tie as tie
 
 wrong-size-requires : tie.Need-wrong-size-requires
 wrong-size-requires c κs = search needs
