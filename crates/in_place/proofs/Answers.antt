@@ -60,6 +60,9 @@ module _ (links : List ℕ) (m : ℕ) {r : ℕ} (q : r ≡ min (2 * m) (length l
   pub index-lent : (index : List ℕ) → Indexed (tableOf (take (2 * m) links)) index → Indexed (tableOf (take r links)) index
   index-lent index i = subst (λ (l : List ℕ). Indexed (tableOf l) index) (sym table-take) i
 
+  pub index-made : (index : List ℕ) → Indexed (tableOf (take r links)) index → Indexed (tableOf (take (2 * m) links)) index
+  index-made index i = subst (λ (l : List ℕ). Indexed (tableOf l) index) table-take i
+
 module _ (s : Session) {r : ℕ} (q : r ≡ min (2 * s .m) (length (s .links))) where
   lent : take r (s .links) ≡ take (2 * s .m) (s .links)
   lent = table-take (s .links) (s .m) q

@@ -192,8 +192,7 @@ pub extern "C" fn threeways_ear_in(
         };
     }
     let st = memory::state_of(stage, n, m, root, first, last, *longs, *born);
-    let none = [0u16; 0];
-    let offered = in_place::ear(st, links, &none, used, births, order, tree1, tree2, ear);
+    let offered = in_place::ear_alone(st, links, used, births, order, tree1, tree2, ear);
     let answer = offered.answer;
     match answer {
         Ear::Refused(number, place) => Refusal { number, place },
