@@ -2,10 +2,11 @@
  * docs/FIRMWARE.md has memory, stack and cost; docs/USER.md says what each refusal means and what to do.
  *
  * Proved, of each function of the archive: for any contents of the session and any arguments it ends, does what the definition of
- * its call says, and reads and writes nothing but what it is lent; after a refusal nothing has changed, outputs included.
+ * its call says, and reads and writes nothing but what it is lent; after a refusal nothing has changed, outputs included. In a list of
+ * ears each ear counts as a call of its own: the accepted ones stay, and their count is written, also where the next is refused.
  *
  * Trusted, in C: that the wrappers at the end of this file pass the parts of a session in the order of the prototypes; that every
- * pointer is good for the count beside it; that what you lend (links, ear, out, outputs) lies outside the session and does not
+ * pointer is good for the count beside it; that what you lend (links, ear, list, out, outputs) lies outside the session and does not
  * overlap; that a session has one caller at a time; and that there is stack enough (docs/FIRMWARE.md).
  */
 #ifndef THREEWAYS_H
@@ -93,6 +94,17 @@ struct threeways_refusal threeways_ear_in(
     uint16_t *tree2, size_t tree2_count,
     const uint16_t *ear, size_t ear_count, uint16_t *count);
 
+struct threeways_refusal threeways_ears_in(
+    uint16_t stage, uint16_t n, uint16_t m, uint16_t root,
+    uint16_t first, uint16_t last, uint16_t *longs, uint16_t *born,
+    const uint16_t *links, size_t links_count,
+    uint8_t *used, size_t used_count,
+    uint16_t *births, size_t births_count,
+    uint16_t *order, size_t order_count,
+    uint16_t *tree1, size_t tree1_count,
+    uint16_t *tree2, size_t tree2_count,
+    const uint16_t *list, size_t list_count, size_t *accepted);
+
 struct threeways_refusal threeways_close_in(
     uint16_t *stage, uint16_t n, uint16_t m, uint16_t root,
     uint16_t first, uint16_t last, uint16_t longs, uint16_t born,
@@ -146,6 +158,18 @@ static inline struct threeways_refusal threeways_ear(struct threeways_session *s
     return threeways_ear_in(s->stage, s->n, s->m, s->root, s->first, s->last, &s->longs, &s->born,
         THREEWAYS_ARRAY(s->links), THREEWAYS_ARRAY(s->used), THREEWAYS_ARRAY(s->births), THREEWAYS_ARRAY(s->order),
         THREEWAYS_ARRAY(s->tree1), THREEWAYS_ARRAY(s->tree2), ear, count, new_switches);
+}
+
+/* Offers the ears of a list of `numbers` numbers, each ear preceded by its count of switch numbers: one after another, up to the first
+ * refusal, which is given back, its place in that ear. Writes how many ears were accepted, also then, and they stay: only the refused
+ * one changes nothing. A count past the end of the list is 7 in its turn; with no number at all nothing is offered, at any stage.
+ * Refusals of an ear: 19, 22, then 7 to 16. */
+static inline struct threeways_refusal threeways_ears(struct threeways_session *s, const uint16_t *list, size_t numbers,
+    size_t *accepted)
+{
+    return threeways_ears_in(s->stage, s->n, s->m, s->root, s->first, s->last, &s->longs, &s->born,
+        THREEWAYS_ARRAY(s->links), THREEWAYS_ARRAY(s->used), THREEWAYS_ARRAY(s->births), THREEWAYS_ARRAY(s->order),
+        THREEWAYS_ARRAY(s->tree1), THREEWAYS_ARRAY(s->tree2), list, numbers, accepted);
 }
 
 /* Closes an open session: the three tables are set. Refusals 19, 22, then 23. */

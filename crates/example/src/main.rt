@@ -1,7 +1,8 @@
-// The worked example of document 01, its cards i and l and the cards below them, through the session's calls.
-// Each answer is written as the lines of document 01 write it, and that of parent as (parent switch tree entry).
+// The worked example of document 01, its cards i and l and the cards below them, and lists of ears, through the session's calls.
+// Each answer is written as the lines of document 01 write it, that of parent as (parent switch tree entry), that of a list as (accepted ears).
 use judge::Ear;
 use network::Load;
+use offering::EarList;
 use session::Session;
 use tables::Close;
 use walks::Parent;
@@ -56,6 +57,27 @@ fn offer(s: Session, ear: &[u16]) -> Session {
         Ear::Refused(number, place) => write_refusal(number, place),
     }
     offered.session
+}
+
+// Writes how many ears of a list were accepted.
+fn write_accepted(count: usize) {
+    io::write_all(1, b"(accepted ");
+    io::print_decimal(1, count as u64);
+    io::write_all(1, b")\n");
+}
+
+// Offers a list of ears, writes how many were accepted and the refusal of the next, if any, and gives the session after it.
+fn offer_list(s: Session, list: &[u16]) -> Session {
+    let listed = session::ears(s, list);
+    let answer = listed.answer;
+    match answer {
+        EarList::Accepted(count) => write_accepted(count),
+        EarList::Refused(count, number, place) => {
+            write_accepted(count);
+            write_refusal(number, place);
+        }
+    }
+    listed.session
 }
 
 // Closes, writes the answer, and gives the session after it.
@@ -158,8 +180,23 @@ fn second_network() {
     routes(s, 3);
 }
 
+// Lists of ears on the first network: one that ends at a refused ear, one that ends at a count past its end, and the rest; and no ears,
+// before and after.
+fn whole_lists() {
+    let links: [u16; 12] = [0, 1, 0, 2, 0, 3, 1, 2, 1, 3, 2, 3];
+    offer_list(Session::empty(), &[]);
+    let mut s = load(4, &links, 0, 1, 3);
+    s = offer_list(s, &[3, 0, 2, 1, 3, 2, 3, 0, 2, 0, 3]);
+    s = offer_list(s, &[3, 2, 3, 1, 3, 0, 3]);
+    s = offer_list(s, &[2, 0, 3]);
+    s = close(s);
+    s = offer_list(s, &[]);
+    offer_list(s, &[2, 0, 3]);
+}
+
 fn main() {
     worked_example();
     first_network();
     second_network();
+    whole_lists();
 }

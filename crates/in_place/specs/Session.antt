@@ -7,6 +7,7 @@ use lib.ListN.{length, replicate, take}
 use Rattle.mondschein.specs.Network.{Network, size}
 use Rattle.mondschein.specs.Judge.{given, refused, loading, verdict, closing}
 use Rattle.mondschein.specs.Outcome.{Outcome, settle}
+use Rattle.mondschein.specs.WholeList.{offering, earsIn}
 use Rattle.network.specs.Load.{networkOf}
 use Rattle.rows.specs.Rows.{marked}
 use Rattle.tables.specs.Tables.{Tables, tablesOf, afterEar, tree3Of}
@@ -107,6 +108,10 @@ unfoldable pub offeredBy : Session → List ℕ → Outcome Session
 offeredBy s e =
     settle s (withTables s (afterEar (networkIn s) e (tablesIn s)))
     (byStage (s .stage) (refused 19 0) (verdict (networkIn s) (marked (s .births)) (marked (s .used)) (eqb (s .born) 0) e) (refused 22 0))
+
+-- ears (document 02, Note 1): those of the slice, one after another, up to the first refusal
+unfoldable pub listedBy : Session → List ℕ → Outcome Session
+listedBy s l = offering offeredBy s (earsIn l)
 
 -- close: 19 on an empty session, 22 on a closed one, then 23
 unfoldable pub closedBy : Session → Outcome Session

@@ -8,15 +8,11 @@ use tables::Close;
 use walks::Parent;
 use walks::Walk;
 ghost use mathlib.Core.Path.{_≡_};
-ghost use Prim.Native.Nat.{_≤_};
 ghost use lib.ListN.{length};
 ghost use Rattle.shape.specs.declared.Ear.the-variants as Ear·;
 ghost use Rattle.tables.specs.declared.Close.the-variants as Close·;
 ghost use Rattle.in_place.specs.Session.{emptySession};
 ghost use Rattle.in_place.specs.InPlace.{emptyState, closedState, IndexedIn, OffersOpen, OffersIn, ClosesOpen, ClosesIn, ParentIn, WalksIn};
-
-// An index is made for one ear where its count of numbers times the numbers of the table is more than this.
-const INDEX_PAYS: usize = 32768;
 
 pub enum Stage {
     Empty,
@@ -205,62 +201,6 @@ pub fn ear(
         Stage::Open => ear_open(st, links, index, used, births, order, tree1, tree2, ear),
         Stage::Closed => ear_refused(22, 0, st),
     }
-}
-
-// Whether an index pays for an ear of so many numbers: on an open session, where the ear's length times the table is large.
-fn index_pays(st: State, count: usize, numbers: usize) -> bool
-    requires { ⌜ numbers ≤ 8192 ⌝ }
-{
-    let stage = st.stage;
-    match stage {
-        Stage::Empty => false,
-        Stage::Open => count > INDEX_PAYS / (numbers + 1),
-        Stage::Closed => false,
-    }
-}
-
-// Offers an ear that brings no index: one is made where it pays.
-pub fn ear_alone(
-    st: State,
-    links: &[u16],
-    used: &mut [u8],
-    births: &mut [u16],
-    order: &mut [u16],
-    tree1: &mut [u16],
-    tree2: &mut [u16],
-    switches: &[u16],
-) -> OfferedIn
-    requires { ⌜ (length (now links) ≡ 8192) × (length (now order) ≡ 1024) ⌝ }
-    ensures { λ r. ⌜ OffersIn st (now (links .entry)) (now (used .entry)) (now (births .entry)) (now (order .entry)) (now (tree1 .entry)) (now (tree2 .entry)) (now (switches .entry)) r (now (used .exit)) (now (births .exit)) (now (order .exit)) (now (tree1 .exit)) (now (tree2 .exit)) ⌝ }
-{
-    let stored = rows::least(2 * (st.m as usize), links.len());
-    if index_pays(st, switches.len(), stored) {
-        let mut index = [0u16; network::INDEX_LENGTH];
-        network::make_index(&links[..stored], &mut index);
-        return ear(
-            st,
-            links,
-            &index,
-            used,
-            births,
-            order,
-            tree1,
-            tree2,
-            switches,
-        );
-    }
-    let none = [0u16; 0];
-    ear(
-        st,
-        links,
-        &none,
-        used,
-        births,
-        order,
-        tree1,
-        tree2,
-        switches,
-    )
 }
 
 fn close_refused(number: u8, place: u16, state: State) -> ClosedIn

@@ -1,9 +1,9 @@
--- Document 01's impostors, each as a program that is the machine but for one thing, with the demand that it does not meet.
--- So none of the demands 1, 2 and 3 holds of every program.
+-- Document 01's impostors, and one of Note 1, each as a program that is the machine but for one thing, with the demand that it does not
+-- meet. So none of the demands 1, 2 and 3 holds of every program, nor does OneByOne.
 use mathlib.Core.Path.{_≡_, refl, ap}
 use mathlib.Core.Logic.{inr, ⊎-elim}
 use mathlib.Core.Bool.{_&&_, cond}
-use mathlib.Core.List.{List, [], _∷_, _++_, map}
+use mathlib.Core.List.{List, [], _∷_, _++_, foldl, map}
 use Prim.Native.Nat.{ℕ}
 use native.Mathlib.Omega.{arith}
 use lib.Dec.{ltb}
@@ -11,17 +11,18 @@ use lib.ListN.{length}
 use Rattle.mondschein.specs.Network.{low, any, count, Network, at, holds, size, former, latter, joins, joined, passes, linkOf, Ears, born, birth, trail, used, isNew, newCount, newSwitches}
 use Rattle.mondschein.specs.Judge.{Answer, given, refused, check, wrongSize, linkTooLarge, selfLink, repeatedLink, wrongNames, missingLink, loading, wrongLength, tooLarge, repeated, notJoined, usedAlready, wrongCycle, unbornEnd, bornBetween, otherNew, otherUnborn, rootEnd, lastMisplaced, noneUnborn, verdict, judge, closing}
 use Rattle.mondschein.specs.Order.{position, fromA, between, extend, order, course, parent1, parent2, parent3By, parentOf}
-use Rattle.mondschein.specs.Outcome.{Outcome, unknown}
+use Rattle.mondschein.specs.Outcome.{granted, Outcome, settle, unknown}
+use Rattle.mondschein.specs.WholeList.{offeringFrom, earsFrom, earsIn, flat}
 use Rattle.mondschein.specs.Mondschein.{Mondschein}
 use Rattle.mondschein.proofs.Outcomes.{never}
 use Rattle.mondschein.proofs.Excluded.{link-in-three-trees}
-use Rattle.machine.specs.Machine.{plan, closedPlan, State, empty, opened, closed, byState, Call, load, ear, close, answers, longer, told, tells, parentCall, walkCall, orderOf, sizeOf, Program, historyFrom, history}
-use Rattle.machine.specs.Demands.{Demand1, Demand2, Demand3}
+use Rattle.machine.specs.Machine.{plan, closedPlan, State, empty, opened, closed, byState, Call, load, ear, ears, close, clear, longer, offer, answers, told, tells, parentCall, walkCall, orderOf, sizeOf, Program, historyFrom, history}
+use Rattle.machine.specs.Demands.{Demand1, OneByOne, Demand2, Demand3}
 use Rattle.machine.proofs.Demand2.{plain}
 
 -- to unfold this is to unfold the judge, the tables and the machine
 computed : Unit {0}
-unfolding low any count holds size former latter joins joined passes linkOf born birth trail used isNew newCount newSwitches check wrongSize linkTooLarge selfLink repeatedLink wrongNames missingLink loading wrongLength tooLarge repeated notJoined usedAlready wrongCycle unbornEnd bornBetween otherNew otherUnborn rootEnd lastMisplaced noneUnborn verdict judge closing position fromA between extend order course parent1 parent2 parent3By parentOf unknown answers longer told tells parentCall historyFrom
+unfolding low any count holds size former latter joins joined passes linkOf born birth trail used isNew newCount newSwitches check wrongSize linkTooLarge selfLink repeatedLink wrongNames missingLink loading wrongLength tooLarge repeated notJoined usedAlready wrongCycle unbornEnd bornBetween otherNew otherUnborn rootEnd lastMisplaced noneUnborn verdict judge closing position fromA between extend order course parent1 parent2 parent3By parentOf granted settle unknown offeringFrom earsFrom flat longer offer answers told tells parentCall historyFrom
 computed = tt
 
 -- document 01's first network, and the list that closes there
@@ -158,3 +159,17 @@ says-21 d =
 pub says-23 : Demand2 (answering (λ s. replaced (refused 23 0) (λ k. given (k ∷ [])))) → ⊥
 unfolding computed
 says-23 d = never (d .judges (load net ∷ map ear (cycle ∷ later)) (plan net (cycle ∷ later)) refl .closes sequence)
+
+-- one that takes a list of ears and goes on after a refused one
+abbrev goingOn : State → Call → State
+goingOn s (load net) = tells (load net) (answers (load net) s) s
+goingOn s (ear e) = tells (ear e) (answers (ear e) s) s
+goingOn s (ears l) = foldl (λ s e. offer s e .after) s (earsIn l)
+goingOn s close = tells close (answers close s) s
+goingOn s clear = tells clear (answers clear s) s
+
+pub goes-on : OneByOne (record { Session = State; fresh = empty; after = goingOn; answer = λ s c. answers c s; parent = parentCall; walk = walkCall; order = orderOf; size = sizeOf }) → ⊥
+unfolding computed
+goes-on one =
+    let z : _≡_ {A = ℕ} 1 0 = ap (λ (o : Outcome State). byState 0 (λ p. length (p .ears)) (λ p. 0) (o .after)) (one (opened (plan net [])) (flat ((0 ∷ []) ∷ cycle ∷ []))) in
+    absurd (omega arith)

@@ -12,15 +12,21 @@ use Rattle.mondschein.specs.Network.{Network}
 use Rattle.mondschein.specs.Judge.{Answer, given, refused}
 use Rattle.mondschein.specs.Outcome.{Outcome, settle}
 use Rattle.mondschein.proofs.Logic.{or-false}
+use Rattle.mondschein.specs.WholeList.{earsIn}
 use Rattle.mondschein.proofs.Outcomes.{never, settle-refused, settle-given}
+use Rattle.mondschein.proofs.WholeList.{offering-alike}
+use Rattle.machine.specs.Machine.{ear, ears}
 use Rattle.tables.specs.Tables.{afterEar, tree3Of}
 use Rattle.in_place.specs.declared.Stage.{Stage}
 use Rattle.in_place.specs.declared.Stage.the-variants.{Empty, Open, Closed}
 use Rattle.in_place.specs.declared.Session.{Session}
-use Rattle.in_place.specs.Session.{networkIn, tablesIn, withTables, closedWith, byStage, loadedBy, offeredBy, closedBy}
+use Rattle.in_place.specs.Session.{networkIn, tablesIn, withTables, closedWith, byStage, loadedBy, offeredBy, listedBy, closedBy}
 use Rattle.in_place.specs.InPlace.{SizedAs}
+use Rattle.session.specs.Calls.{called}
 use Rattle.memory.specs.declared.Refusal.{Refusal}
-use Rattle.memory.specs.Memory.{Numbers, numbersBy, Memory, memoryBy, stageOf, stageNumber, sessionAt, memoryOf, inMemory, wrongLengths, sized, refusalBy, refusalOf, outputOf, Gives}
+use Rattle.memory.specs.Memory.{Numbers, numbersBy, Memory, memoryBy, stageOf, stageNumber, sessionAt, memoryOf, inMemory, wrongLengths, sized, refusalBy, refusalOf, endOf, outputOf, Gives, GivesList}
+use Rattle.memory.specs.Program.{singleIn, calledIn}
+use Rattle.memory.proofs.Program.{keeps}
 
 -- by the answer
 module _ {A : Type 0} (o : Outcome A) (out : ℕ) {r : Refusal} {after : A} where
@@ -41,6 +47,15 @@ module _ {A : Type 0} (old : A) (o : Outcome A) (out : ℕ) {r : Refusal} {wrong
   pub lengths-right : {after : A} {new : ℕ} → wrong ≡ false → Gives o out r after new → Gives (sized wrong old o) out r after new
   unfolding sized
   lengths-right {after} {new} q g = subst (λ (x : Bool). Gives (sized x old o) out r after new) (sym q) g
+
+  -- the same of a list of ears
+  pub list-wrong : wrong ≡ true → r ≡ refusalBy 255 0 → GivesList (sized wrong old o) out r old out
+  unfolding sized endOf outputOf
+  list-wrong q p = subst (λ (x : Bool). GivesList (sized x old o) out r old out) (sym q) (record { refusal = p; left = refl; output = refl })
+
+  pub list-right : {after : A} {new : ℕ} → wrong ≡ false → GivesList o out r after new → GivesList (sized wrong old o) out r after new
+  unfolding sized
+  list-right {after} {new} q g = subst (λ (x : Bool). GivesList (sized x old o) out r after new) (sym q) g
 
 -- a refusal leaves the session
 abbrev pub Leaves : Session → Outcome Session → Type 0
@@ -131,6 +146,60 @@ module _ (mem : Memory) (s′ : Session) {vs : List ℕ} where
       let told : closedBy s .answer ≡ given vs = sym (ap (λ (x : Outcome Session). x .answer) q) in
       let after : s′ ≡ w = ap (λ (x : Outcome Session). x .after) q ∙ ap (λ (x : Outcome Session). x .after) (settle-given s w told) in
       sym (ap (λ (x : Session). memoryOf x .numbers) after)
+
+-- the memory after ears, by the session that they left: its counts of long ears and of switches born, its arrays, and the other numbers
+-- as they were
+abbrev pub memoryAfter : Memory → Session → Memory
+memoryAfter mem s = let k = mem .numbers in memoryWith (numbersBy (k .stage) (k .n) (k .m) (k .root) (k .first) (k .last) (s .longs) (s .born)) s
+
+module _ (mem : Memory) where
+  abbrev Grown : Memory → Session → Type 0
+  Grown mem′ s = (mem′ ≡ memoryAfter mem s) × (sessionAt mem′ ≡ s)
+
+  abbrev offerIn : Memory → List ℕ → Outcome Memory
+  offerIn mem′ e = singleIn mem′ (ear e)
+
+  one-ear : (s : Session) (e : List ℕ) → sessionAt (memoryAfter mem s) ≡ s
+      → Grown (offerIn (memoryAfter mem s) e .after) (offeredBy s e .after) × (offerIn (memoryAfter mem s) e .answer ≡ offeredBy s e .answer)
+  unfolding called inMemory settle
+  one-ear s e k =
+      subst (λ (z : Session). Grown (offerIn before e .after) (offeredBy z e .after) × (offerIn before e .answer ≡ offeredBy z e .answer)) k (go (o .answer) refl, refl)
+    where
+      before : Memory
+      before = memoryAfter mem s
+
+      o : Outcome Session
+      o = offeredBy (sessionAt before) e
+
+      go : (a : Answer) → o .answer ≡ a → Grown (settle before (memoryOf (o .after)) (o .answer) .after) (o .after)
+      go (given vs) q =
+          subst (λ (x : Memory). Grown x (o .after)) (sym (ap (λ (x : Outcome Memory). x .after) (settle-given before (memoryOf (o .after)) q)))
+          (ap (λ (j : Numbers). memoryWith j (o .after)) (sym (ear-numbers before (o .after) e (ap (λ (a : Answer). record { answer = a; after = o .after }) (sym q)))), keeps (o .after))
+      go (refused num place) q =
+          let left : o .after ≡ sessionAt before = ear-leaves (sessionAt before) e num place q in
+          subst (λ (x : Memory). Grown x (o .after)) (sym (ap (λ (x : Outcome Memory). x .after) (settle-refused before (memoryOf (o .after)) q)))
+          (ap (memoryAfter mem) (sym (left ∙ k)), sym left)
+
+  -- a list of ears
+  pub list-in : (l : List ℕ) → (calledIn mem (ears l) .after ≡ memoryAfter mem (listedBy (sessionAt mem) l .after)) × (calledIn mem (ears l) .answer ≡ listedBy (sessionAt mem) l .answer)
+  unfolding calledIn listedBy
+  list-in l =
+      let (grown, q) =
+      offering-alike offerIn offeredBy Grown
+      (λ mem′ s e (g, k). subst (λ (x : Memory). sessionAt x ≡ s → Grown (offerIn x e .after) (offeredBy s e .after) × (offerIn x e .answer ≡ offeredBy s e .answer)) (sym g) (one-ear s e) k)
+      0 mem (sessionAt mem) (earsIn l) (refl, refl) in
+      (grown .0, q)
+
+  pub listing-call : (l : List ℕ) (out : ℕ) (a : Answer) (s : Session) {r : Refusal} {new : ℕ} → record { answer = a; after = s } ≡ listedBy (sessionAt mem) l → r ≡ endOf a → new ≡ outputOf out a
+      → GivesList (calledIn mem (ears l)) out r (memoryAfter mem s) new
+  listing-call l out a s q p n =
+      let (after, told) = list-in l in
+      let same : calledIn mem (ears l) .answer ≡ a = told ∙ sym (ap (λ (o : Outcome Session). o .answer) q) in
+      record {
+        refusal = p ∙ sym (ap endOf same);
+        left = ap (λ (o : Outcome Session). memoryAfter mem (o .after)) q ∙ sym after;
+        output = n ∙ sym (ap (outputOf out) same);
+      }
 
 -- the lengths of what is lent to close, to parent and walk, and to ear, beside those of the arrays that are not
 pub lengths-close : (l u b o p q t : ℕ) → o ≡ 1024 → p ≡ 1024 → q ≡ 1024 → wrongLengths l u b o p q t ≡ wrongLengths l u b 1024 1024 1024 t

@@ -6,6 +6,7 @@ use mathlib.Core.List.{List, [], _∷_}
 use Prim.Native.Nat.{ℕ}
 use lib.Dec.{eqb}
 use lib.ListN.{length}
+use Rattle.mondschein.specs.Network.{at}
 use Rattle.mondschein.specs.Judge.{Answer, given, refused}
 use Rattle.mondschein.specs.Outcome.{Outcome, settle}
 use Rattle.in_place.specs.declared.Stage.{Stage}
@@ -96,6 +97,11 @@ unfoldable pub refusalOf : Answer → Refusal
 refusalOf (given values) = refusalBy 0 0
 refusalOf (refused num place) = refusalBy num place
 
+-- what a list of ears gives back: the refusal of an ear, which its answer tells as second and third value; number 0 where there is none
+unfoldable pub endOf : Answer → Refusal
+endOf (given values) = refusalBy (at values 1) (at values 2)
+endOf (refused num place) = refusalBy num place
+
 -- what an answer writes as an output: its first value; after a refusal, what was there
 unfoldable pub outputOf : ℕ → Answer → ℕ
 outputOf old (given []) = old
@@ -110,4 +116,10 @@ pub record Returns {A : Type 0} (o : Outcome A) (r : Refusal) (after : A) : Type
 -- the same, with an output that was `old` and is `new`
 pub record Gives {A : Type 0} (o : Outcome A) (old : ℕ) (r : Refusal) (after : A) (new : ℕ) : Type 0 where
   pub returns : Returns o r after
+  pub output : new ≡ outputOf old (o .answer)
+
+-- a list of ears gives back the refusal of an ear, if any, and its output is the count of ears accepted, in either case
+pub record GivesList {A : Type 0} (o : Outcome A) (old : ℕ) (r : Refusal) (after : A) (new : ℕ) : Type 0 where
+  pub refusal : r ≡ endOf (o .answer)
+  pub left : after ≡ o .after
   pub output : new ≡ outputOf old (o .answer)

@@ -5,7 +5,8 @@ use mathlib.Core.List.{List}
 use Prim.Native.Nat.{ℕ}
 use Rattle.mondschein.specs.Judge.{refused}
 use Rattle.mondschein.specs.Outcome.{Outcome}
-use Rattle.machine.specs.Machine.{Call, Program}
+use Rattle.mondschein.specs.WholeList.{nextRefused, offering, earsIn}
+use Rattle.machine.specs.Machine.{Call, load, ear, ears, close, clear, Program}
 use Rattle.in_place.specs.declared.Session.{Session}
 use Rattle.in_place.specs.Session.{zeros}
 use Rattle.in_place.specs.Queries.{parentBy, walkedBy}
@@ -13,9 +14,17 @@ use Rattle.session.specs.Calls.{called}
 use Rattle.session.specs.Program.{keptOrder, sizeIn}
 use Rattle.memory.specs.Memory.{Memory, numbersBy, memoryBy, sessionAt, memoryOf, inMemory}
 
--- one call
+-- a call of the session that the memory means
+abbrev pub singleIn : Memory → Call → Outcome Memory
+singleIn mem c = inMemory mem (called (sessionAt mem) c)
+
+-- one call; in a list each ear is a call of its own, and a refused one leaves the memory to the letter
 unfoldable pub calledIn : Memory → Call → Outcome Memory
-calledIn mem c = inMemory mem (called (sessionAt mem) c)
+calledIn mem (load net) = singleIn mem (load net)
+calledIn mem (ear e) = singleIn mem (ear e)
+calledIn mem (ears l) = offering (λ mem e. singleIn mem (ear e)) mem (earsIn l)
+calledIn mem close = singleIn mem close
+calledIn mem clear = singleIn mem clear
 
 -- all zeros
 abbrev pub noMemory : Memory
@@ -38,8 +47,9 @@ memoryProgram =
 abbrev pub Keeps : Type 0
 Keeps = (s : Session) → sessionAt (memoryOf s) ≡ s
 
--- number 0 is no refusal, so that it tells success
+-- number 0 is no refusal, also not of an ear of a list, so that it tells success
 pub record ZeroSucceeds : Type 0 where
   pub calls : (mem : Memory) (c : Call) (place : ℕ) → calledIn mem c .answer ≡ refused 0 place → ⊥
+  pub lists : (mem : Memory) (l : List ℕ) (k place : ℕ) → calledIn mem (ears l) .answer ≡ nextRefused k 0 place → ⊥
   pub parents : (mem : Memory) (v t place : ℕ) → parentBy (sessionAt mem) v t ≡ refused 0 place → ⊥
   pub walks : (mem : Memory) (v t : ℕ) (out : List ℕ) (place : ℕ) → walkedBy (sessionAt mem) v t out .answer ≡ refused 0 place → ⊥

@@ -1,22 +1,25 @@
--- One call on a session by value, of document 01's four that write one, and what each answered, by document 01's values and numbers.
+-- One call on a session by value, of those that write one, and what each answered, by document 01's values and numbers.
 -- What each call does to a session is defined beside the session, in Rattle.in_place.specs.Session.
 use mathlib.Core.List.{[]}
 use Rattle.mondschein.specs.Judge.{given}
 use Rattle.mondschein.specs.Outcome.{Outcome}
-use Rattle.machine.specs.Machine.{Call, load, ear, close, clear}
+use Rattle.machine.specs.Machine.{Call, load, ear, ears, close, clear}
 use Rattle.network.specs.Load.{loadAnswer}
 use Rattle.judge.specs.Ear.{earAnswer}
 use Rattle.tables.specs.Tables.{closeAnswer}
 use Rattle.in_place.specs.declared.Session.{Session}
-use Rattle.in_place.specs.Session.{loadedBy, offeredBy, closedBy, clearedBy}
+use Rattle.in_place.specs.Session.{loadedBy, offeredBy, listedBy, closedBy, clearedBy}
+use Rattle.offering.specs.Offering.{earsAnswer}
 use Rattle.session.specs.declared.Loading.{Loading}
 use Rattle.session.specs.declared.Offering.{Offering}
+use Rattle.session.specs.declared.Listing.{Listing}
 use Rattle.session.specs.declared.Closing.{Closing}
 
 -- one call
 unfoldable pub called : Session → Call → Outcome Session
 called s (load net) = loadedBy s net
 called s (ear e) = offeredBy s e
+called s (ears l) = listedBy s l
 called s close = closedBy s
 called s clear = clearedBy s
 
@@ -26,6 +29,9 @@ loadOutcome r = record { answer = loadAnswer (r .answer); after = r .session }
 
 abbrev pub earOutcome : Offering → Outcome Session
 earOutcome r = record { answer = earAnswer (r .answer); after = r .session }
+
+abbrev pub earsOutcome : Listing → Outcome Session
+earsOutcome r = record { answer = earsAnswer (r .answer); after = r .session }
 
 abbrev pub closeOutcome : Closing → Outcome Session
 closeOutcome r = record { answer = closeAnswer (r .answer); after = r .session }

@@ -6,10 +6,10 @@ use Prim.Native.Nat.{ℕ}
 use lib.ListN.{length}
 use Rattle.mondschein.specs.Network.{Network}
 use Rattle.mondschein.specs.Outcome.{Outcome}
-use Rattle.machine.specs.Machine.{Call, load, ear, close, clear}
+use Rattle.machine.specs.Machine.{Call, load, ear, ears, close, clear}
 use Rattle.in_place.specs.Queries.{parentBy, walkedBy}
 use Rattle.memory.specs.declared.Refusal.{Refusal}
-use Rattle.memory.specs.Memory.{Memory, sessionAt, wrongIn, sized, Returns, Gives}
+use Rattle.memory.specs.Memory.{Memory, sessionAt, wrongIn, sized, Returns, Gives, GivesList}
 use Rattle.memory.specs.Program.{calledIn}
 
 -- what a call that writes the session does to the memory: 255, or the call
@@ -30,6 +30,10 @@ Row l = length l ≡ 1024
 -- ear, whatever tree 3 holds; the output is the number of new switches
 abbrev pub Offers : (List ℕ → Memory) → List ℕ → ℕ → Refusal → (List ℕ → Memory) → ℕ → Type 0
 Offers mem e old r mem′ new = (tree3 : List ℕ) → Row tree3 → Gives (calledWith (mem tree3) (ear e)) old r (mem′ tree3) new
+
+-- a list of ears, whatever tree 3 holds; the output is the count of ears accepted
+abbrev pub Lists : (List ℕ → Memory) → List ℕ → ℕ → Refusal → (List ℕ → Memory) → ℕ → Type 0
+Lists mem l old r mem′ new = (tree3 : List ℕ) → Row tree3 → GivesList (calledWith (mem tree3) (ears l)) old r (mem′ tree3) new
 
 -- close, whatever the order and trees 1 and 2 hold
 abbrev pub Closes : (List ℕ → List ℕ → List ℕ → Memory) → Refusal → (List ℕ → List ℕ → List ℕ → Memory) → Type 0

@@ -8,12 +8,13 @@ use memory::MARKS;
 use memory::ROW;
 use memory::Refusal;
 use network::Load;
+use offering::EarList;
 use tables::Close;
 use walks::Parent;
 use walks::Walk;
 ghost use Rattle.network.specs.Load.{networkOf};
 ghost use Rattle.memory.specs.Memory.{numbersBy, memoryBy};
-ghost use Rattle.threeways_c.specs.Calls.{Clears, Loads, Offers, Closes, Tells, WritesWalk};
+ghost use Rattle.threeways_c.specs.Calls.{Clears, Loads, Offers, Lists, Closes, Tells, WritesWalk};
 
 // Clears the session: always succeeds.
 #[no_mangle]
@@ -192,7 +193,7 @@ pub extern "C" fn threeways_ear_in(
         };
     }
     let st = memory::state_of(stage, n, m, root, first, last, *longs, *born);
-    let offered = in_place::ear_alone(st, links, used, births, order, tree1, tree2, ear);
+    let offered = offering::ear(st, links, used, births, order, tree1, tree2, ear);
     let answer = offered.answer;
     match answer {
         Ear::Refused(number, place) => Refusal { number, place },
@@ -205,6 +206,70 @@ pub extern "C" fn threeways_ear_in(
                 number: 0,
                 place: 0,
             }
+        }
+    }
+}
+
+// Offers a list of ears, each preceded by its count of numbers: one after another, up to the first refusal, which it gives back. Writes the
+// count of ears accepted; they stay.
+#[no_mangle]
+pub extern "C" fn threeways_ears_in(
+    stage: u16,
+    n: u16,
+    m: u16,
+    root: u16,
+    first: u16,
+    last: u16,
+    longs: &mut u16,
+    born: &mut u16,
+    links: &[u16],
+    used: &mut [u8],
+    births: &mut [u16],
+    order: &mut [u16],
+    tree1: &mut [u16],
+    tree2: &mut [u16],
+    list: &[u16],
+    accepted: &mut usize,
+) -> Refusal
+    ensures { λ r. ⌜ Lists
+        (λ tree3. memoryBy (numbersBy stage n m root first last (now (longs .entry)) (now (born .entry)))
+        (now (links .entry)) (now (used .entry)) (now (births .entry)) (now (order .entry)) (now (tree1 .entry)) (now (tree2 .entry)) tree3)
+        (now (list .entry)) (now (accepted .entry)) r
+        (λ tree3. memoryBy (numbersBy stage n m root first last (now (longs .exit)) (now (born .exit)))
+        (now (links .exit)) (now (used .exit)) (now (births .exit)) (now (order .exit)) (now (tree1 .exit)) (now (tree2 .exit)) tree3)
+        (now (accepted .exit)) ⌝ }
+{
+    if memory::wrong_lengths(
+        links.len(),
+        used.len(),
+        births.len(),
+        order.len(),
+        tree1.len(),
+        tree2.len(),
+        ROW,
+    ) {
+        return Refusal {
+            number: LENGTHS,
+            place: 0,
+        };
+    }
+    let st = memory::state_of(stage, n, m, root, first, last, *longs, *born);
+    let listed = offering::ears(st, links, used, births, order, tree1, tree2, list);
+    let reached = listed.state;
+    *longs = reached.longs;
+    *born = reached.born;
+    let answer = listed.answer;
+    match answer {
+        EarList::Accepted(count) => {
+            *accepted = count;
+            Refusal {
+                number: 0,
+                place: 0,
+            }
+        }
+        EarList::Refused(before, number, place) => {
+            *accepted = before;
+            Refusal { number, place }
         }
     }
 }

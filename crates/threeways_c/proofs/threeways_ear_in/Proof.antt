@@ -24,13 +24,13 @@ before-lengths c = c .before .before .before .before .before .before .before .be
 abbrev before-state : tie.After-state-of → tie.After-wrong-lengths
 before-state c = c .before .before .before .before
 
-abbrev before-ear : tie.After-ear-alone → tie.After-state-of
+abbrev before-ear : tie.After-ear → tie.After-state-of
 before-ear c = c .before .before .before .before .before .before
 
-abbrev before-match : tie.At-match-keys1 → tie.After-ear-alone
+abbrev before-match : tie.At-match-keys1 → tie.After-ear
 before-match c = c .before .before .before .before .before .before .before .before .before .before .before
 
-abbrev start : tie.After-ear-alone → tie.Start
+abbrev start : tie.After-ear → tie.Start
 start c = before-lengths (before-state (before-ear c))
 
 -- the memory, with what is not lent
@@ -45,16 +45,16 @@ right-lengths : (c : tie.After-state-of) → let a = before-lengths (before-stat
 right-lengths c = sym (before-state c .wrong-lengths .ensures) ∙ c .before .before .before .if1 .left
 
 -- the session after the call, and what it answered, by the session that the memory means
-abbrev after : tie.After-ear-alone → List ℕ → Session
+abbrev after : tie.After-ear → List ℕ → Session
 after c tree3 =
-    sessionIn (c .ear-alone .result .state) (start c .args .links .now) (c .ear-alone .last .1 .1 .0) (c .ear-alone .last .1 .1 .1 .0) (c .ear-alone .last .1 .1 .1 .1 .0) (c .ear-alone .last .1 .1 .1 .1 .1 .0) (c .ear-alone .last .1 .1 .1 .1 .1 .1 .0) tree3
+    sessionIn (c .ear .result .state) (start c .args .links .now) (c .ear .last .1 .1 .0) (c .ear .last .1 .1 .1 .0) (c .ear .last .1 .1 .1 .1 .0) (c .ear .last .1 .1 .1 .1 .1 .0) (c .ear .last .1 .1 .1 .1 .1 .1 .0) tree3
 
-answered : (c : tie.After-ear-alone) (tree3 : List ℕ) (x : Ear) → c .ear-alone .result .answer ≡ x
+answered : (c : tie.After-ear) (tree3 : List ℕ) (x : Ear) → c .ear .result .answer ≡ x
     → record { answer = earAnswer x; after = after c tree3 } ≡ offeredBy (sessionAt (held (start c) tree3)) (start c .args .ear .now)
 answered c tree3 x q =
     let a = start c .args in
     ap (λ (y : Ear). record { answer = earAnswer y; after = after c tree3 }) (sym q)
-    ∙ c .ear-alone .ensures tree3
+    ∙ c .ear .ensures tree3
     ∙ ap (λ (st : State). offeredBy (sessionIn st (a .links .now) (a .used .now) (a .births .now) (a .order .now) (a .tree1 .now) (a .tree2 .now) tree3) (a .ear .now)) (before-ear c .state-of .ensures)
 
 wrong-lengths-requires : tie.Need-wrong-lengths-requires
@@ -67,8 +67,8 @@ returns c =
 state-of-requires : tie.Need-state-of-requires
 state-of-requires c κs = search needs
 
-ear-alone-requires : tie.Need-ear-alone-requires
-ear-alone-requires c κs =
+ear-requires : tie.Need-ear-requires
+ear-requires c κs =
     let lengths = right _ _ _ _ _ _ _ (right-lengths (c .before .before .before .before .before)) in
     (lengths .0, lengths .3)
 
@@ -79,19 +79,19 @@ enum-known-answer-2 : tie.Need-enum-known-answer-2
 enum-known-answer-2 c = search needs
 
 same-length : tie.Need-same-length
-same-length c = c .before .before .before .before .before .before .before .before .before .before .before .before .before .ear-alone .kept .1 .1 .0
+same-length c = c .before .before .before .before .before .before .before .before .before .before .before .before .before .ear .kept .1 .1 .0
 
 same-length-2 : tie.Need-same-length-2
-same-length-2 c = c .before .before .before .before .before .before .before .before .before .before .before .before .before .ear-alone .kept .1 .1 .1 .0
+same-length-2 c = c .before .before .before .before .before .before .before .before .before .before .before .before .before .ear .kept .1 .1 .1 .0
 
 same-length-3 : tie.Need-same-length-3
-same-length-3 c = c .before .before .before .before .before .before .before .before .before .before .before .before .before .ear-alone .kept .1 .1 .1 .1 .0
+same-length-3 c = c .before .before .before .before .before .before .before .before .before .before .before .before .before .ear .kept .1 .1 .1 .1 .0
 
 same-length-4 : tie.Need-same-length-4
-same-length-4 c = c .before .before .before .before .before .before .before .before .before .before .before .before .before .ear-alone .kept .1 .1 .1 .1 .1 .0
+same-length-4 c = c .before .before .before .before .before .before .before .before .before .before .before .before .before .ear .kept .1 .1 .1 .1 .1 .0
 
 same-length-5 : tie.Need-same-length-5
-same-length-5 c = c .before .before .before .before .before .before .before .before .before .before .before .before .before .ear-alone .kept .1 .1 .1 .1 .1 .1 .0
+same-length-5 c = c .before .before .before .before .before .before .before .before .before .before .before .before .before .ear .kept .1 .1 .1 .1 .1 .1 .0
 
 returns-2 : tie.Need-returns-2
 unfolding calledIn called
@@ -103,19 +103,19 @@ returns-2 c =
     (refusing-call (held (start at-ear) tree3) _ (after at-ear tree3) _ (ear-leaves _ _) (answered at-ear tree3 _ (at-answer .answer .given .1)) refl)
 
 same-length-6 : tie.Need-same-length-6
-same-length-6 c = c .before .before .before .before .before .before .before .before .before .before .before .before .before .before .ear-alone .kept .1 .1 .0
+same-length-6 c = c .before .before .before .before .before .before .before .before .before .before .before .before .before .before .ear .kept .1 .1 .0
 
 same-length-7 : tie.Need-same-length-7
-same-length-7 c = c .before .before .before .before .before .before .before .before .before .before .before .before .before .before .ear-alone .kept .1 .1 .1 .0
+same-length-7 c = c .before .before .before .before .before .before .before .before .before .before .before .before .before .before .ear .kept .1 .1 .1 .0
 
 same-length-8 : tie.Need-same-length-8
-same-length-8 c = c .before .before .before .before .before .before .before .before .before .before .before .before .before .before .ear-alone .kept .1 .1 .1 .1 .0
+same-length-8 c = c .before .before .before .before .before .before .before .before .before .before .before .before .before .before .ear .kept .1 .1 .1 .1 .0
 
 same-length-9 : tie.Need-same-length-9
-same-length-9 c = c .before .before .before .before .before .before .before .before .before .before .before .before .before .before .ear-alone .kept .1 .1 .1 .1 .1 .0
+same-length-9 c = c .before .before .before .before .before .before .before .before .before .before .before .before .before .before .ear .kept .1 .1 .1 .1 .1 .0
 
 same-length-10 : tie.Need-same-length-10
-same-length-10 c = c .before .before .before .before .before .before .before .before .before .before .before .before .before .before .ear-alone .kept .1 .1 .1 .1 .1 .1 .0
+same-length-10 c = c .before .before .before .before .before .before .before .before .before .before .before .before .before .before .ear .kept .1 .1 .1 .1 .1 .1 .0
 
 returns-3 : tie.Need-returns-3
 unfolding calledIn called outputOf
@@ -134,7 +134,7 @@ threeways-ear-in-spec =
     wrong-lengths-requires
     returns
     state-of-requires
-    ear-alone-requires
+    ear-requires
     enum-known-answer
     enum-known-answer-2
     same-length
