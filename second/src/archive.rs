@@ -1,4 +1,4 @@
-//! The static archive of the first program as its header for C declares it: a session's memory, and the six functions.
+//! The static archive of the first program as its header for C declares it: a session's memory, and the seven functions.
 //! `Session::parts` lends what the header's wrappers lend; the arrays of other `Parts` may have any length.
 
 use std::ptr::NonNull;
@@ -88,6 +88,18 @@ extern "C" {
         tree1: Out<u16>, tree1_count: usize,
         tree2: Out<u16>, tree2_count: usize,
         ear: In<u16>, ear_count: usize, count: Out<u16>,
+    ) -> Refusal;
+
+    fn threeways_ears_in(
+        stage: u16, n: u16, m: u16, root: u16,
+        first: u16, last: u16, longs: Out<u16>, born: Out<u16>,
+        links: In<u16>, links_count: usize,
+        used: Out<u8>, used_count: usize,
+        births: Out<u16>, births_count: usize,
+        order: Out<u16>, order_count: usize,
+        tree1: Out<u16>, tree1_count: usize,
+        tree2: Out<u16>, tree2_count: usize,
+        list: In<u16>, list_count: usize, accepted: Out<usize>,
     ) -> Refusal;
 
     fn threeways_close_in(
@@ -196,6 +208,19 @@ impl Parts<'_> {
             ear,
             length,
             count
+        )
+    }
+
+    pub fn ears(&mut self, list: &[u16], accepted: &mut usize) -> Refusal {
+        let (list, length) = (start(list), list.len());
+        call!(
+            threeways_ears_in,
+            self,
+            [val, val, val, val, val, val, mut, mut],
+            [links, used, births, order, tree1, tree2],
+            list,
+            length,
+            accepted
         )
     }
 

@@ -1,5 +1,5 @@
 //! The session of document 01: empty, open or closed, and the refusals from
-//! the state (19 to 22), which come before all others.
+//! the state (19 to 22), which come before all others. Of document 02 it has Note 1, the whole list in one call.
 
 use crate::judge::Judge;
 use crate::network::{Network, Site};
@@ -42,6 +42,23 @@ impl Session {
     /// Offering an ear gives the number of new switches.
     pub fn ear(&mut self, ear: &[u16]) -> Result<usize, Refusal> {
         self.open()?.ear(ear)
+    }
+
+    /// Offers the ears of a list, each preceded by its count of numbers, up to the first refusal. Gives how many were
+    /// accepted, and that refusal. A count past the end of the list is 7 in its turn.
+    pub fn ears(&mut self, list: &[u16]) -> (usize, Option<Refusal>) {
+        let mut accepted = 0;
+        for ear in ears_of(list) {
+            let offered = match ear {
+                Some(ear) => self.ear(ear),
+                None => self.open().and_then(|_| refuse(7, 0)),
+            };
+            match offered {
+                Ok(_) => accepted += 1,
+                Err(refusal) => return (accepted, Some(refusal)),
+            }
+        }
+        (accepted, None)
     }
 
     /// Closing succeeds when no link is left unused.
@@ -95,5 +112,93 @@ impl Session {
                 Ok(tables)
             }
         }
+    }
+}
+
+/// The list of these ears, each preceded by its count of numbers. An ear of 65,536 numbers or more reads as several.
+pub fn list_of(ears: &[Vec<u16>]) -> Vec<u16> {
+    ears.iter().flat_map(|ear| [&[ear.len() as u16], &ear[..]].concat()).collect()
+}
+
+/// The ears of a list; the last is none where its count is past the end.
+pub fn ears_of(list: &[u16]) -> impl Iterator<Item = Option<&[u16]>> {
+    let mut rest = list;
+    std::iter::from_fn(move || {
+        let (&count, numbers) = rest.split_first()?;
+        rest = numbers.get(count.into()..).unwrap_or_default();
+        Some(numbers.get(..count.into()))
+    })
+}
+
+#[cfg(test)]
+mod tests {
+    use super::*;
+    use crate::every::worked_site;
+
+    /// The worked network, open, after a list that is accepted.
+    fn after(list: &[u16]) -> Session {
+        let mut session = Session::Empty;
+        session.load(&worked_site(), Plant::Nothing).unwrap();
+        assert_eq!(session.ears(list).1, None);
+        session
+    }
+
+    fn stopped(accepted: usize, number: u8, place: usize) -> (usize, Option<Refusal>) {
+        (accepted, Some(Refusal { number, place }))
+    }
+
+    const FIRST: [u16; 4] = [3, 0, 2, 1];
+    const WHOLE: [u16; 11] = [3, 0, 2, 1, 3, 2, 3, 1, 2, 0, 3];
+
+    #[test]
+    fn a_list_does_what_its_ears_do() {
+        let mut session = after(&[]);
+        assert_eq!(session.ears(&WHOLE), (3, None));
+        assert_eq!(session.close(), Ok(()));
+        assert_eq!(session.walk(2, 3), Ok(vec![2, 3, 0]));
+        let mut session = after(&FIRST);
+        assert_eq!(session.ears(&WHOLE[4..]), (2, None));
+        assert_eq!(session.close(), Ok(()));
+    }
+
+    #[test]
+    fn a_refused_ear_ends_the_list_and_the_accepted_ones_stay() {
+        // The second ear reaches last over its link to root: 15 at 1. The third is not offered.
+        let mut session = after(&[]);
+        assert_eq!(session.ears(&[3, 0, 2, 1, 3, 2, 3, 0, 2, 0, 3]), stopped(1, 15, 1));
+        assert_eq!(session.close(), refuse(23, 2));
+        assert_eq!(session.ears(&WHOLE), stopped(0, 11, 0));
+        assert_eq!(session.ears(&WHOLE[4..]), (2, None));
+        assert_eq!(session.close(), Ok(()));
+    }
+
+    #[test]
+    fn ears_of_no_number_and_counts_past_the_end_are_7_in_their_turn() {
+        for (list, accepted) in [
+            (&[0][..], 0),
+            (&[0, 3, 0, 2, 1], 0),
+            (&[3, 0, 2, 1, 0, 3, 2, 3, 1], 1),
+            (&[3, 0, 2, 1, 1, 2, 3], 1),
+            (&[1], 0),
+            (&[65535], 0),
+            (&[4, 0, 2, 1], 0),
+            (&[3, 0, 2, 1, 65535, 2, 3, 1], 1),
+            (&[3, 0, 2, 1, 3, 2, 3, 1, 3, 0, 3], 2),
+        ] {
+            assert_eq!(after(&[]).ears(list), stopped(accepted, 7, 0), "{list:?}");
+        }
+    }
+
+    #[test]
+    fn the_stage_comes_first_and_no_number_is_no_offer() {
+        let mut closed = after(&WHOLE);
+        closed.close().unwrap();
+        for (mut session, number) in [(Session::Empty, 19), (closed, 22)] {
+            for list in [&WHOLE[..], &[0], &[1], &[65535, 0, 2, 1]] {
+                assert_eq!(session.ears(list), stopped(0, number, 0), "{list:?}");
+            }
+            assert_eq!(session.ears(&[]), (0, None));
+        }
+        assert_eq!(after(&WHOLE).ears(&[]), (0, None));
     }
 }

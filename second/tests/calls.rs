@@ -38,9 +38,9 @@ mod with_the_archive {
         let counts = run(1, 100_000, Plant::Nothing, Fault::Nothing).unwrap_or_else(|found| panic!("{found:?}"));
         assert_eq!(counts.calls, 100_000);
         assert_eq!(counts.missing(), []);
-        assert!(counts.granted.keys().eq(&["clear", "close", "ear", "load", "parent", "walk"]), "{counts:?}");
-        assert!(counts.unknown_granted.keys().eq(&["clear", "close", "ear", "parent", "walk"]), "{counts:?}");
-        assert!(counts.wrong_lengths > 0, "{counts:?}");
+        assert!(counts.granted.keys().eq(&["clear", "close", "ear", "ears", "load", "parent", "walk"]), "{counts:?}");
+        assert!(counts.unknown_granted.keys().eq(&["clear", "close", "ear", "ears", "parent", "walk"]), "{counts:?}");
+        assert!(counts.stopped > 0 && counts.wrong_lengths > 0, "{counts:?}");
     }
 
     #[test]
@@ -63,6 +63,8 @@ mod with_the_archive {
             (Fault::Rest, Kind::Changed),
             (Fault::Copy, Kind::Copies),
             (Fault::Lengths, Kind::Lengths),
+            (Fault::Accepted, Kind::Answer),
+            (Fault::Order, Kind::Changed),
         ] {
             let finding = difference(Plant::Nothing, fault).finding;
             assert_eq!(finding.kind, kind, "{fault:?}: {finding:?}");

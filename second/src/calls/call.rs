@@ -1,5 +1,5 @@
 //! A call of a session with its arguments, and what the second program answers to it.
-//! An answer has the call's values in document 01's order, or its refusal.
+//! An answer has the call's values in document 01's order, or its refusal, and of a list the ears accepted.
 
 use std::fmt::{Display, Formatter, Result as Written};
 
@@ -14,6 +14,8 @@ pub enum Call {
     /// A site without its links, and links as plain numbers.
     Load(Site, Vec<u16>),
     Ear(Vec<u16>),
+    /// A list of ears, each preceded by its count of numbers.
+    Ears(Vec<u16>),
     Close,
     Parent {
         switch: u16,
@@ -27,7 +29,22 @@ pub enum Call {
 }
 
 /// The values that a call gives (of a walk the count, then the switches), or its refusal.
-pub type Answer = Result<Vec<u16>, Refusal>;
+pub type Values = Result<Vec<u16>, Refusal>;
+
+/// What a call answers.
+#[derive(Clone, Debug, PartialEq, Eq)]
+pub struct Answer {
+    /// How many ears of a list were accepted; 0 of any other call.
+    pub accepted: usize,
+    pub values: Values,
+}
+
+impl Answer {
+    /// Whether the session may have changed: the call was granted, or an ear of its list was.
+    pub fn may_change(&self) -> bool {
+        self.values.is_ok() || self.accepted > 0
+    }
+}
 
 impl Call {
     /// The site's names and switches, with these numbers for its links.
@@ -38,7 +55,7 @@ impl Call {
     /// The numbers that the call lends for reading.
     pub fn lent(&self) -> &[u16] {
         match self {
-            Call::Load(_, numbers) | Call::Ear(numbers) => numbers,
+            Call::Load(_, numbers) | Call::Ear(numbers) | Call::Ears(numbers) => numbers,
             _ => &[],
         }
     }
@@ -53,7 +70,8 @@ impl Call {
 
     /// Makes the call on the second program's session.
     pub fn second(&self, session: &mut Session, plant: Plant) -> Answer {
-        match self {
+        let mut accepted = 0;
+        let values = match self {
             Call::Clear => {
                 session.clear();
                 Ok(Vec::new())
@@ -62,23 +80,37 @@ impl Call {
                 session.load_numbers(names, numbers, plant).map(|(n, m)| vec![n as u16, m as u16])
             }
             Call::Ear(ear) => session.ear(ear).map(|new| vec![new as u16]),
+            Call::Ears(list) => {
+                let (count, refusal) = session.ears(list);
+                accepted = count;
+                refusal.map_or(Ok(Vec::new()), Err)
+            }
             Call::Close => session.close().map(|()| Vec::new()),
             Call::Parent { switch, tree } => session.parent(*switch, *tree).map(|entry| vec![entry]),
             Call::Walk { switch, tree, room } => {
-                let walk = session.walk_within(*switch, *tree, *room)?;
-                Ok([&[walk.len() as u16], &walk[..]].concat())
+                let walk = session.walk_within(*switch, *tree, *room);
+                walk.map(|walk| [&[walk.len() as u16], &walk[..]].concat())
             }
-        }
+        };
+        Answer { accepted, values }
     }
 
-    /// Makes the call on a session of the archive. Its numbers are lent at `lent`, and it writes at `out` and `value`.
-    pub fn archive(&self, parts: &mut Parts, lent: &[u16], out: &mut [u16], value: &mut u16) -> archive::Refusal {
+    /// Makes the call on a session of the archive. Its numbers are lent at `lent`, and it writes at the other three.
+    pub fn archive(
+        &self,
+        parts: &mut Parts,
+        lent: &[u16],
+        out: &mut [u16],
+        value: &mut u16,
+        accepted: &mut usize,
+    ) -> archive::Refusal {
         match self {
             Call::Clear => parts.clear(),
             Call::Load(Site { switches, root, first, last, .. }, _) => {
                 parts.load(*switches, lent, *root, *first, *last)
             }
             Call::Ear(_) => parts.ear(lent, value),
+            Call::Ears(_) => parts.ears(lent, accepted),
             Call::Close => parts.close(),
             Call::Parent { switch, tree } => parts.parent(*switch, *tree, value),
             Call::Walk { switch, tree, .. } => parts.walk(*switch, *tree, out, value),
@@ -103,6 +135,7 @@ impl Display for Call {
                 write!(out, "load {switches} root {root} first {first} last {last} links{}", Numbers(numbers))
             }
             Call::Ear(ear) => write!(out, "ear{}", Numbers(ear)),
+            Call::Ears(list) => write!(out, "ears{}", Numbers(list)),
             Call::Close => write!(out, "close"),
             Call::Parent { switch, tree } => write!(out, "parent {switch} {tree}"),
             Call::Walk { switch, tree, room } => write!(out, "walk {switch} {tree} into {room}"),

@@ -3,13 +3,14 @@
 
 use super::arguments::{any_numbers, mix_plan, path, query, through, wild_query};
 use super::call::Call;
+use super::lists::{any_list, damaged_list};
 use crate::archive::{self, CLOSED, OPEN};
 use crate::damage::{damage_site, damaged_ear, last_by_root, tried_ear, tried_in_vain};
 use crate::judge::Judge;
 use crate::network::{Site, MAX_LINKS};
 use crate::plan::{Plan, Shape};
 use crate::random::Random;
-use crate::session::Session;
+use crate::session::{list_of, Session};
 
 /// An ear of this many numbers or more has places enough that more calls stray from it.
 const LONG: usize = 9;
@@ -23,6 +24,8 @@ pub struct Draw {
     tries: bool,
     /// Percent of calls that stray from the plan.
     noise: usize,
+    /// Percent of calls on the plan that offer several ears as one list.
+    lists: usize,
     /// How many calls other than ears of the plan are still to come.
     left: usize,
 }
@@ -45,7 +48,8 @@ impl Draw {
         }
         let long = plan.ears.iter().filter(|ear| ear.len() >= LONG).count();
         let left = random.within(5, 40) + plan.ears.len() * noise / 40 + 5 * long;
-        Draw { plan, at: 0, tries: switches <= 20 && random.chance(25), noise, left }
+        let tries = switches <= 20 && random.chance(25);
+        Draw { plan, at: 0, tries, noise, lists: *random.pick(&[0, 0, 0, 20]), left }
     }
 
     /// After how many calls the session is overwritten, if it is.
@@ -62,8 +66,12 @@ impl Draw {
             _ => self.noise.min(20),
         });
         if let (Session::Open(_), Some(ear), false) = (session, next_ear, strays) {
+            if random.chance(self.lists) {
+                return Some(Call::Ears(list_of(&self.next_ears(random, 12))));
+            }
+            let ear = ear.clone();
             self.at += 1;
-            return Some(Call::Ear(ear.clone()));
+            return Some(Call::Ear(ear));
         }
         self.left = self.left.checked_sub(1)?;
         if strays {
@@ -78,6 +86,18 @@ impl Draw {
             Session::Open(_) => Call::Close,
             Session::Closed(_) => query(random, session, self.plan.site.switches),
         })
+    }
+
+    /// The next ears of the plan: fewer than `most`, up to a long one, or all that are left.
+    fn next_ears(&mut self, random: &mut Random, most: usize) -> Vec<Vec<u16>> {
+        let left = &self.plan.ears[self.at.min(self.plan.ears.len())..];
+        let few = random.below(most);
+        let count = match random.chance(4) {
+            true => left.len(),
+            false => left.iter().take(few).take_while(|ear| ear.len() < LONG).count(),
+        };
+        self.at += count;
+        left[..count].to_vec()
     }
 
     /// An ear that may be taken where the plan is not followed: a link that is left, or a path.
@@ -106,8 +126,24 @@ impl Draw {
                 self.at = 0;
                 Call::Clear
             }
+            5 | 6 => Call::Ears(self.stray_list(random, session)),
             _ => Call::Ear(self.stray_ear(random, session)),
         }
+    }
+
+    /// A list that is most likely refused at one of its ears; where the session is open, most often behind good ones.
+    fn stray_list(&mut self, random: &mut Random, session: &Session) -> Vec<u16> {
+        let Session::Open(_) = session else {
+            let ears = vec![self.any_ear(random), self.any_ear(random)];
+            return any_list(random, ears);
+        };
+        let good = list_of(&self.next_ears(random, 4));
+        let mut next: Vec<Vec<u16>> = self.plan.ears.iter().skip(self.at).take(4).cloned().collect();
+        if random.chance(50) {
+            next.insert(0, self.stray_ear(random, session));
+            return [good, list_of(&next)].concat();
+        }
+        [good, damaged_list(random, next)].concat()
     }
 
     fn stray_ear(&self, random: &mut Random, session: &Session) -> Vec<u16> {
@@ -163,28 +199,39 @@ impl Draw {
     /// A call on memory that no calls made, most often one for its stage.
     pub fn wild(&mut self, random: &mut Random, memory: &archive::Session) -> Call {
         let kind = match memory.stage {
-            _ if random.chance(15) => random.below(20),
-            OPEN => random.within(4, 20),
-            CLOSED => random.within(2, 3),
-            _ => random.below(3),
+            _ if random.chance(15) => random.below(25),
+            OPEN => random.within(5, 25),
+            CLOSED => random.within(3, 4),
+            _ => random.below(4),
         };
         match kind {
-            0 => self.load(random, 40),
-            1 if random.chance(20) => Call::Clear,
-            1..=3 => wild_query(random, memory),
-            4..=6 => Call::Close,
-            7..=9 => Call::Ear(self.any_ear(random)),
-            10..=13 => Call::Ear(path(random, memory)),
-            _ => Call::Ear(self.moved_ear(memory)),
+            1 => self.load(random, 40),
+            2 if random.chance(20) => Call::Clear,
+            2..=4 => wild_query(random, memory),
+            5..=7 => Call::Close,
+            8..=10 => Call::Ear(self.any_ear(random)),
+            11..=14 => Call::Ear(path(random, memory)),
+            15..=21 => Call::Ear(self.moved_ears(memory, 1).concat()),
+            _ => Call::Ears(self.wild_list(random, memory)),
         }
     }
 
-    /// The next ear of the plan, its numbers raised as the root in memory is.
-    fn moved_ear(&mut self, memory: &archive::Session) -> Vec<u16> {
+    /// A list of ears that memory may take.
+    fn wild_list(&mut self, random: &mut Random, memory: &archive::Session) -> Vec<u16> {
+        let count = *random.pick(&[2, 4, 4, 30]);
+        let mut ears = self.moved_ears(memory, count);
+        if random.chance(30) {
+            ears[random.below(count)] = path(random, memory);
+        }
+        any_list(random, ears)
+    }
+
+    /// The next ears of the plan, from the first on again where it ends, their numbers raised as the root in memory is.
+    fn moved_ears(&mut self, memory: &archive::Session, count: usize) -> Vec<Vec<u16>> {
         let by = memory.root.wrapping_sub(self.plan.site.root);
         let at = if memory.born == 0 { 0 } else { self.at % self.plan.ears.len() };
         self.at = at + 1;
-        let ear = &self.plan.ears[at];
-        ear.iter().map(|switch| switch.wrapping_add(by)).collect()
+        let next = self.plan.ears.iter().cycle().skip(at).take(count);
+        next.map(|ear| ear.iter().map(|switch| switch.wrapping_add(by)).collect()).collect()
     }
 }

@@ -1,4 +1,4 @@
-//! A session's memory held against the second program, field by field, after a call that both granted.
+//! A session's memory held against the second program, field by field, after a call or an ear that both granted.
 //! The second program knows all but the order and trees 1 and 2 of an open session, and the entries past N.
 
 use super::call::Call;
@@ -11,7 +11,7 @@ use crate::tables::Tables;
 /// The name of a field that the call left wrong, if any.
 pub fn wrong_field(call: &Call, memory: &archive::Session, second: &Session) -> Option<&'static str> {
     match (call, second) {
-        (Call::Parent { .. } | Call::Walk { .. }, _) => None,
+        (Call::Parent { .. } | Call::Walk { .. }, _) | (Call::Ears(_), Session::Empty | Session::Closed(_)) => None,
         (_, Session::Empty) => (*memory != archive::Session::EMPTY).then_some("all of an empty session"),
         (Call::Load(_, numbers), Session::Open(judge)) => wrong_loaded(memory, numbers).or(wrong_open(memory, judge)),
         (_, Session::Open(judge)) => wrong_open(memory, judge),

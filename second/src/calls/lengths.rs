@@ -12,7 +12,7 @@ use crate::random::Random;
 pub fn wrong_lengths(random: &mut Random, call: &Call) -> Lengths {
     let lent: &[usize] = match call {
         Call::Clear | Call::Load(..) => &[0, 1, 2, 3, 4, 5, 6],
-        Call::Ear(_) => &[0, 1, 2, 3, 4, 6],
+        Call::Ear(_) | Call::Ears(_) => &[0, 1, 2, 3, 4, 6],
         Call::Close => &[0, 1, 5, 6],
         Call::Parent { .. } | Call::Walk { .. } => &[3, 4, 5],
     };

@@ -1,8 +1,10 @@
 //! What a call may answer and leave on an open or closed session that no calls made: what its memory alone decides.
 //! Numbers past the end of an array read as 0, a table has at most the array's links, and a walk at most N switches.
+//! A list of ears answers and leaves what its ears do, offered one by one to another session of the same memory.
 
-use super::call::{Answer, Call};
+use super::call::{Answer, Call, Values};
 use crate::archive::{Session, CLOSED, OPEN};
+use crate::session::ears_of;
 use crate::{refuse, Refusal};
 
 /// Whether the call may be answered so.
@@ -11,25 +13,39 @@ pub fn may_answer(call: &Call, session: &Session, answer: &Answer) -> bool {
     let settled = match call {
         Call::Clear => Ok(Vec::new()),
         Call::Load(..) => refuse(20, 0),
-        Call::Ear(ear) if is_open => return may_judge(ear, answer),
+        Call::Ear(ear) if is_open => return may_judge(ear, &answer.values),
+        Call::Ears(list) => return *answer == one_by_one(&mut session.clone(), list),
         Call::Close if is_open => close(session),
         Call::Ear(_) | Call::Close => refuse(22, 0),
         Call::Parent { .. } | Call::Walk { .. } if is_open => refuse(21, 0),
         Call::Parent { switch, tree } => row(session, *switch, *tree).map(|row| vec![entry(row, *switch)]),
         Call::Walk { switch, tree, room } => walk(session, *switch, *tree, *room),
     };
-    *answer == settled
+    *answer == Answer { accepted: 0, values: settled }
 }
 
-fn may_judge(ear: &[u16], answer: &Answer) -> bool {
-    match answer {
+fn may_judge(ear: &[u16], values: &Values) -> bool {
+    match values {
         Err(Refusal { number: 7 | 12, place }) => *place == 0,
         Err(Refusal { number, place }) => (8..=16).contains(number) && *place < ear.len(),
         Ok(new) => new[0] as usize == ear.len() || new[0] as usize + 2 == ear.len(),
     }
 }
 
-fn close(session: &Session) -> Answer {
+/// Offers the ears of a list, each by a call of its own. A count past the end is refused as one number alone is.
+fn one_by_one(session: &mut Session, list: &[u16]) -> Answer {
+    let mut accepted = 0;
+    for ear in ears_of(list) {
+        let refusal = session.parts().ear(ear.unwrap_or(&[0]), &mut 0);
+        if refusal.number != 0 {
+            return Answer { accepted, values: refuse(refusal.number, refusal.place.into()) };
+        }
+        accepted += 1;
+    }
+    Answer { accepted, values: Ok(Vec::new()) }
+}
+
+fn close(session: &Session) -> Values {
     match session.used.iter().take(session.m.into()).position(|&used| used == 0) {
         Some(link) => refuse(23, link),
         None => Ok(Vec::new()),
@@ -47,28 +63,33 @@ fn entry(row: &[u16], switch: u16) -> u16 {
     row.get(switch as usize).copied().unwrap_or(0)
 }
 
-fn walk(session: &Session, switch: u16, tree: u16, room: usize) -> Answer {
+fn walk(session: &Session, switch: u16, tree: u16, room: usize) -> Values {
     let row = row(session, switch, tree)?;
-    let mut answer = vec![1, switch];
+    let mut values = vec![1, switch];
     let mut at = switch;
-    while at != session.root && answer[0] < session.n {
+    while at != session.root && values[0] < session.n {
         at = entry(row, at);
-        answer.push(at);
-        answer[0] += 1;
+        values.push(at);
+        values[0] += 1;
     }
-    if answer[0] as usize > room {
+    if values[0] as usize > room {
         return refuse(18, 0);
     }
-    Ok(answer)
+    Ok(values)
 }
 
-/// Whether a granted call left what it does not set, and set the stage.
+/// Whether a granted call left what it does not set, and set the stage; of a list, whether all is as its ears leave it.
 pub fn leaves(call: &Call, before: &Session, after: &Session) -> bool {
     let same_network = network(before) == network(after);
     match call {
         Call::Clear => *after == Session::EMPTY,
         Call::Load(..) => after.stage == OPEN,
         Call::Ear(_) => same_network && after.stage == OPEN && before.tree3 == after.tree3,
+        Call::Ears(list) => {
+            let mut offered = before.clone();
+            one_by_one(&mut offered, list);
+            *after == offered
+        }
         Call::Close => same_network && after.stage == CLOSED && tables(before) == tables(after),
         Call::Parent { .. } | Call::Walk { .. } => before == after,
     }

@@ -1,6 +1,6 @@
 //! Every call of the archive, compared with the second program and tried on memory that no calls made.
-//! `call`, `lent`, `side` and `lengths` make a call, `trial`, `known` and `memory` judge it, `draw`, `arguments` and
-//! `overwrite` choose it, `run` goes through many.
+//! `call`, `lent`, `side` and `lengths` make a call, `trial`, `known` and `memory` judge it, `draw`, `arguments`,
+//! `lists` and `overwrite` choose it, `run` goes through many.
 
 mod arguments;
 mod call;
@@ -8,6 +8,7 @@ mod draw;
 mod known;
 mod lengths;
 mod lent;
+mod lists;
 mod memory;
 mod overwrite;
 mod run;

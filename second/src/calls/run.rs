@@ -28,6 +28,8 @@ pub struct Counts {
     pub compared: usize,
     pub granted: BTreeMap<&'static str, usize>,
     pub refusals: BTreeMap<u16, BTreeMap<u16, usize>>,
+    /// Lists that were refused at an ear behind accepted ones.
+    pub stopped: usize,
     /// Sessions overwritten, and the calls on them that the second program does not know.
     pub overwritten: usize,
     pub unknown: usize,
@@ -175,6 +177,7 @@ fn name(call: &Call) -> &'static str {
         Call::Clear => "clear",
         Call::Load(..) => "load",
         Call::Ear(_) => "ear",
+        Call::Ears(_) => "ears",
         Call::Close => "close",
         Call::Parent { .. } => "parent",
         Call::Walk { .. } => "walk",
@@ -191,7 +194,8 @@ impl Counts {
                     false => (&mut self.unknown, &mut self.unknown_granted, &mut self.unknown_refusals),
                 };
                 *all += 1;
-                match answer {
+                self.stopped += usize::from(answer.accepted > 0 && answer.values.is_err());
+                match &answer.values {
                     Ok(_) => *granted.entry(name(call)).or_default() += 1,
                     Err(refusal) => {
                         let places = refusals.entry(refusal.number.into()).or_default();
@@ -223,7 +227,7 @@ pub fn summary(counts: &Counts) -> String {
     format!(
         "equal: {} calls, {} sessions; {} compared with the second program, granted {}, \
          refusals (number:times/places) {}; {} overwritten, {} calls on them, granted {}, refusals {}; \
-         {} calls with arrays of wrong lengths",
+         {} lists stopped behind accepted ears; {} calls with arrays of wrong lengths",
         counts.calls,
         counts.sessions,
         counts.compared,
@@ -233,6 +237,7 @@ pub fn summary(counts: &Counts) -> String {
         counts.unknown,
         told(&counts.unknown_granted),
         refusals_told(&counts.unknown_refusals),
+        counts.stopped,
         counts.wrong_lengths,
     )
 }

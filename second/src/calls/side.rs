@@ -1,10 +1,10 @@
 //! One copy of a session's memory with what a call on it is lent.
 //! After each call the copy tells whether anything changed that must not.
 
-use super::call::{Answer, Call};
+use super::call::{Answer, Call, Values};
 use super::lent::{Lent, Memory};
 use super::trial::{Finding, Kind};
-use crate::archive::{Refusal, Session};
+use crate::archive::{Refusal, Session, LENGTHS};
 
 /// A fault put in on purpose behind a call of the archive, so that a test can see it found.
 #[derive(Clone, Copy, Debug, PartialEq, Eq, Default)]
@@ -23,7 +23,14 @@ pub enum Fault {
     Copy,
     /// Arrays of wrong lengths are lent with the right ones.
     Lengths,
+    /// The count of a list's ears is one too many where one is refused.
+    Accepted,
+    /// A list leaves another order than its ears.
+    Order,
 }
+
+/// What stands where the ears accepted are written, before the call: no half of it is 0.
+const UNWRITTEN: usize = usize::MAX / 3;
 
 /// The memory of a session, and what a call on it is lent.
 pub struct Side<M> {
@@ -31,12 +38,14 @@ pub struct Side<M> {
     lent: Lent<u16>,
     out: Lent<u16>,
     value: Lent<u16>,
+    accepted: Lent<usize>,
 }
 
 impl<M: Memory> Side<M> {
     pub fn new(memory: M, guards: usize, mark: u16, nowhere: bool) -> Side<M> {
         let lent = || Lent::new(guards, mark, nowhere);
-        Side { memory, lent: lent(), out: lent(), value: lent() }
+        let accepted = Lent::new(guards, mark.into(), nowhere);
+        Side { memory, lent: lent(), out: lent(), value: lent(), accepted }
     }
 
     /// Makes a call; the slice lent to a walk, and the number that a call may write, hold the start of `filler`.
@@ -44,17 +53,36 @@ impl<M: Memory> Side<M> {
         self.lent.fill(call.lent().iter().copied());
         self.out.fill(filler[..call.room()].iter().copied());
         self.value.fill(filler[..1].iter().copied());
-        call.archive(&mut self.memory.parts(), self.lent.lend(), self.out.lend(), &mut self.value.lend()[0])
+        self.accepted.fill(std::iter::once(UNWRITTEN));
+        call.archive(
+            &mut self.memory.parts(),
+            self.lent.lend(),
+            self.out.lend(),
+            &mut self.value.lend()[0],
+            &mut self.accepted.lend()[0],
+        )
     }
 
     /// What the call gave.
     pub fn answer(&mut self, call: &Call, refusal: Refusal) -> Answer {
+        Answer { accepted: self.accepted(call, refusal).unwrap_or(0), values: self.values(call, refusal) }
+    }
+
+    /// How many ears were accepted, if the call is to write that: a list does, unless arrays have wrong lengths.
+    fn accepted(&self, call: &Call, refusal: Refusal) -> Option<usize> {
+        match call {
+            Call::Ears(_) if refusal != LENGTHS => Some(self.accepted.get()[0]),
+            _ => None,
+        }
+    }
+
+    fn values(&mut self, call: &Call, refusal: Refusal) -> Values {
         if refusal.number != 0 {
             return crate::refuse(refusal.number, refusal.place.into());
         }
         let value = self.value.get()[0];
         Ok(match call {
-            Call::Clear | Call::Close => Vec::new(),
+            Call::Clear | Call::Ears(_) | Call::Close => Vec::new(),
             Call::Load(..) => {
                 let [_, n, m, ..] = self.memory.parts().numbers;
                 vec![*n, *m]
@@ -67,10 +95,11 @@ impl<M: Memory> Side<M> {
         })
     }
 
-    /// Nothing changed outside what is lent, nothing that is lent for reading, and by a refusal nothing at all; a walk
-    /// leaves the rest of its slice. `before` is the session as it was.
+    /// Nothing changed outside what is lent, nothing that is lent for reading, and by a refusal nothing at all, but the
+    /// count of a list and by the ears accepted; a walk leaves the rest of its slice. `before` is the session as it was.
     pub fn check(&self, call: &Call, filler: &[u16], before: &Session, refusal: Refusal) -> Result<(), Finding> {
-        if !self.memory.is_guarded() || ![&self.lent, &self.out, &self.value].iter().all(|lent| lent.is_guarded()) {
+        let lent = [&self.lent, &self.out, &self.value];
+        if !self.memory.is_guarded() || !lent.iter().all(|lent| lent.is_guarded()) || !self.accepted.is_guarded() {
             return Finding::of(Kind::Outside, "memory that was not lent has changed");
         }
         if self.lent.get() != call.lent() {
@@ -84,7 +113,12 @@ impl<M: Memory> Side<M> {
         if self.out.get().get(written..) != filler[..call.room()].get(written..) {
             return Finding::of(Kind::Changed, "the rest of the slice of a walk has changed");
         }
-        if refusal.number != 0 && (!self.memory.holds(before) || value != filler[0]) {
+        let accepted = self.accepted(call, refusal);
+        if accepted.is_none() && self.accepted.get()[0] != UNWRITTEN {
+            return Finding::of(Kind::Changed, "a count of ears accepted was written by a call that has none");
+        }
+        let nothing = refusal.number != 0 && accepted.unwrap_or(0) == 0;
+        if nothing && (!self.memory.holds(before) || value != filler[0]) {
             return Finding::of(Kind::Changed, "a refusal has changed the session or an output");
         }
         Ok(())
@@ -101,6 +135,8 @@ impl<M: Memory> Side<M> {
                 let count = usize::from(self.value.get()[0]);
                 self.out.lend()[count] ^= 1;
             }
+            (Fault::Accepted, Call::Ears(_)) if !granted => self.accepted.lend()[0] += 1,
+            (Fault::Order, Call::Ears(_)) if self.accepted.get()[0] > 0 => self.memory.parts().order[1023] ^= 1,
             (Fault::Copy, Call::Ear(_)) if granted && copy => self.memory.parts().tree1[1023] ^= 1,
             _ => {}
         }

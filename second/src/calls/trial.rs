@@ -136,17 +136,17 @@ impl Trial {
             return Finding::of(Kind::Copies, "the same call on two equal sessions differs");
         }
         self.judge(call, &answer)?;
-        if answer.is_ok() {
+        if answer.may_change() {
             self.before.numbers_mut().copy_from_slice(self.whole.memory.session().numbers());
         }
         Ok(answer)
     }
 
-    /// Holds the answer, and after a granted call the session, against what is known of them.
+    /// Holds the answer, and where a call or an ear was granted the session, against what is known of them.
     fn judge(&mut self, call: &Call, answer: &Answer) -> Result<(), Finding> {
         let after = self.whole.memory.session();
-        if answer.is_ok() && !leaves(call, &self.before, after) {
-            return Finding::of(Kind::Changed, "a granted call has changed what it must leave");
+        if answer.may_change() && !leaves(call, &self.before, after) {
+            return Finding::of(Kind::Changed, "the call has not left the session as it must");
         }
         if let Call::Clear = call {
             self.second = Some(Session::Empty);
@@ -162,7 +162,7 @@ impl Trial {
             let what = format!("the archive answers {}, the second program {}", Told(answer), Told(&expected));
             return Finding::of(Kind::Answer, &what);
         }
-        match answer.as_ref().ok().and_then(|_| wrong_field(call, after, second)) {
+        match answer.may_change().then(|| wrong_field(call, after, second)).flatten() {
             Some(field) => Finding::of(Kind::Field, &format!("the session differs in {field}")),
             None => Ok(()),
         }
@@ -174,7 +174,10 @@ struct Told<'a>(&'a Answer);
 
 impl Display for Told<'_> {
     fn fmt(&self, out: &mut Formatter) -> Written {
-        match self.0 {
+        if self.0.accepted > 0 {
+            write!(out, "{} accepted, ", self.0.accepted)?;
+        }
+        match &self.0.values {
             Ok(values) => write!(out, "{values:?}"),
             Err(refusal) => write!(out, "refusal {} at {}", refusal.number, refusal.place),
         }

@@ -1,0 +1,53 @@
+//! `second-list PLAN` loads the network of a plan and offers its ears as one list, in functions that a profiler finds by
+//! name (`bench/archive`). It prints the count of ears accepted, and ends with 1 where anything is refused.
+
+use std::process::ExitCode;
+
+use second_reading::lines::{read_form, Form};
+use second_reading::network::Site;
+use second_reading::session::{list_of, Session};
+use second_reading::{Plant, Refusal};
+
+#[no_mangle]
+#[inline(never)]
+pub fn measured_load(session: &mut Session, site: &Site) -> Result<(usize, usize), Refusal> {
+    session.load(site, Plant::Nothing)
+}
+
+#[no_mangle]
+#[inline(never)]
+pub fn measured_ears(session: &mut Session, list: &[u16]) -> (usize, Option<Refusal>) {
+    session.ears(list)
+}
+
+/// The site of a plan, and its ears as one list. Other lines are passed over.
+fn read_plan(plan: &[u8]) -> (Site, Vec<u16>) {
+    let (mut names, mut links, mut ears) = (Site::default(), Vec::new(), Vec::new());
+    for form in plan.split(|&byte| byte == b'\n').filter_map(read_form) {
+        match form {
+            Form::Net { switches, root, first, last } => {
+                names = Site { switches, root, first, last, links: Vec::new() };
+            }
+            Form::Link(a, b) => links.push((a, b)),
+            Form::Ear(ear) => ears.push(ear),
+            _ => {}
+        }
+    }
+    (Site { links, ..names }, list_of(&ears))
+}
+
+fn main() -> ExitCode {
+    let Some(Ok(plan)) = std::env::args().nth(1).map(std::fs::read) else {
+        eprintln!("second-list PLAN");
+        return ExitCode::from(2);
+    };
+    let (site, list) = read_plan(&plan);
+    let mut session = Session::Empty;
+    let loaded = measured_load(&mut session, &site);
+    let (accepted, refusal) = measured_ears(&mut session, &list);
+    println!("{accepted}");
+    if loaded.is_err() || refusal.is_some() {
+        return ExitCode::FAILURE;
+    }
+    ExitCode::SUCCESS
+}
