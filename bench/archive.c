@@ -1,4 +1,4 @@
-/* Makes the calls of a plan through include/threeways.h: load, its ears and close, then parent and walk of every switch, then clear.
+/* Makes the calls of a plan through include/threeways.h: load, its list and its ears, close, parent and walk of every switch, clear.
  * Call: archive calls PLAN or archive stack PLAN. A line for each call: name, refusal (0: none), length, bytes of stack (calls: 0). */
 #include <stdio.h>
 #include <stdlib.h>
@@ -8,18 +8,18 @@
 
 #include "threeways.h"
 
-enum { LINE = 6146, MAX_EARS = 4096, EAR_NUMBERS = 16384, ANY = 65535, STACK = 4 << 20, GUARD = 4096 };
+enum { LINE = 6146, MAX_EARS = 4096, LIST = 20480, ANY = 65535, STACK = 4 << 20, GUARD = 4096 };
 
 #define PAINT UINT64_C(0xa5a5a5a5a5a5a5a5)
 
-/* The plan: net has N, root, first and last; ear i has the numbers from start[i] to start[i + 1]. */
-static uint16_t net[4], links[2 * THREEWAYS_MAX_LINKS], numbers[EAR_NUMBERS];
+/* The plan: net has N, root, first and last; ear i stands in the list from start[i] to start[i + 1], its count first. */
+static uint16_t net[4], links[2 * THREEWAYS_MAX_LINKS], list[LIST];
 static size_t links_count, ears, start[MAX_EARS + 1];
 
 /* The session, what a call is given beside it, and what it gives. */
 static struct threeways_session session;
 static const uint16_t *ear;
-static size_t ear_count, room = THREEWAYS_MAX_SWITCHES;
+static size_t ear_count, accepted, room = THREEWAYS_MAX_SWITCHES;
 static uint16_t switch_number, tree, result, out[ANY];
 static struct threeways_refusal refusal;
 
@@ -40,6 +40,7 @@ static void fail(const char *what)
 CALL(clear, threeways_clear(&session))
 CALL(load, threeways_load(&session, net[0], links, links_count, net[1], net[2], net[3]))
 CALL(ear, threeways_ear(&session, ear, ear_count, &result))
+CALL(ears, threeways_ears(&session, list, start[ears], &accepted))
 CALL(close, threeways_close(&session))
 CALL(parent, threeways_parent(&session, switch_number, tree, &result))
 CALL(walk, threeways_walk(&session, switch_number, tree, out, room, &result))
@@ -73,9 +74,11 @@ static void read_line(const char *line)
             fail("a link line has two numbers");
         links_count += 2;
     } else if (is(line, "(ear")) {
-        if (ears == MAX_EARS)
+        uint16_t *count = list + start[ears];
+        if (ears == MAX_EARS || start[ears] == LIST)
             fail("the plan has too many ears");
-        start[ears + 1] = start[ears] + read_numbers(line, numbers + start[ears], EAR_NUMBERS - start[ears]);
+        *count = (uint16_t)read_numbers(line, count + 1, LIST - start[ears] - 1);
+        start[ears + 1] = start[ears] + 1 + *count;
         ears++;
     } else if (!is(line, "(open)") && !is(line, "(close)") && !is(line, "(walk ")) {
         fail("the plan has a line that is no net, link, open, ear, close or walk");
@@ -148,6 +151,25 @@ static void report(const char *name, size_t length, size_t bytes)
     printf("%s %u %zu %zu\n", name, (unsigned)refusal.number, length, bytes);
 }
 
+/* Offers the ears as one list, and puts the session back as it was. */
+static void offer_list(void)
+{
+    static struct threeways_session before;
+    before = session;
+    size_t bytes = make(measured_ears);
+    report("list", accepted, bytes);
+    session = before;
+}
+
+static void offer_ears(void)
+{
+    for (size_t i = 0; i < ears; i++) {
+        ear = list + start[i] + 1;
+        ear_count = list[start[i]];
+        report("ear", ear_count, make(measured_ear));
+    }
+}
+
 static void ask(uint16_t s, uint16_t t)
 {
     switch_number = s;
@@ -181,11 +203,8 @@ int main(int count, char **words)
         depth(note_above);
     }
     report("load", links_count / 2, make(measured_load));
-    for (size_t i = 0; i < ears; i++) {
-        ear = numbers + start[i];
-        ear_count = start[i + 1] - start[i];
-        report("ear", ear_count, make(measured_ear));
-    }
+    offer_list();
+    offer_ears();
     report("close", 0, make(measured_close));
     for (uint16_t t = 1; t <= 3; t++)
         for (uint16_t s = 0; s < net[0]; s++)

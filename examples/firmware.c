@@ -5,17 +5,15 @@
 
 #include "threeways.h"
 
-enum { TREES = 3, EARS = 3 };
+enum { TREES = 3 };
 
-struct ear {
-    size_t count;
-    uint16_t switches[4];
-};
-
-/* The plan: 4 switches with root 0, first 1 and last 3, and an ear that a planner got wrong. */
+/* The plan: 4 switches with root 0, first 1 and last 3; an ear that a planner got wrong; and the list, each ear preceded by its count of
+ * switches. */
 static const uint16_t links[] = { 0, 1, 0, 2, 0, 3, 1, 2, 1, 3, 2, 3 };
-static const struct ear wrong_ear = { 4, { 0, 2, 3, 1 } };
-static const struct ear ears[EARS] = { { 3, { 0, 2, 1 } }, { 3, { 2, 3, 1 } }, { 2, { 0, 3 } } };
+static const uint16_t wrong_ear[] = { 0, 2, 3, 1 };
+static const uint16_t list[] = { 3, 0, 2, 1, 3, 2, 3, 1, 2, 0, 3 };
+
+#define COUNT(array) (sizeof(array) / sizeof((array)[0]))
 
 static struct threeways_session session;                /* zeros: the empty session */
 static uint16_t forward[TREES][THREEWAYS_MAX_SWITCHES]; /* by tree and switch: the next switch on the way to the root */
@@ -35,31 +33,36 @@ static void print_switches(const uint16_t *switches, size_t count)
         printf(" %u", (unsigned)switches[i]);
 }
 
-/* Offers an ear, and prints what it is answered. After a refusal the session is as it was, and the next ear can be offered. */
-static struct threeways_refusal offer(const struct ear *ear)
+/* Offers the wrong ear. After a refusal the session is as it was, and other ears can be offered. */
+static void offer_wrong_ear(void)
 {
     uint16_t new_switches = 0;
-    struct threeways_refusal refusal = threeways_ear(&session, ear->switches, ear->count, &new_switches);
+    struct threeways_refusal refusal = threeways_ear(&session, wrong_ear, COUNT(wrong_ear), &new_switches);
+    if (refusal.number == 0) {
+        fputs("firmware: the wrong ear was accepted\n", stderr);
+        exit(EXIT_FAILURE);
+    }
     printf("ear");
-    print_switches(ear->switches, ear->count);
-    if (refusal.number != 0)
-        printf(": refused %u at %u\n", (unsigned)refusal.number, (unsigned)refusal.place);
-    else
-        printf(": %u new\n", (unsigned)new_switches);
-    return refusal;
+    print_switches(wrong_ear, COUNT(wrong_ear));
+    printf(": refused %u at %u\n", (unsigned)refusal.number, (unsigned)refusal.place);
+}
+
+/* Offers the list. Where an ear of it is refused, the place is one in that ear, and the ears before it stay accepted. */
+static void offer_list(void)
+{
+    size_t accepted = 0;
+    struct threeways_refusal refusal = threeways_ears(&session, list, COUNT(list), &accepted);
+    printf("ears accepted: %zu\n", accepted);
+    require("ears", refusal);
 }
 
 /* Loads the network and brings its ear list to the end. */
 static void judge(void)
 {
-    require("load", threeways_load(&session, 4, links, sizeof links / sizeof links[0], 0, 1, 3));
+    require("load", threeways_load(&session, 4, links, COUNT(links), 0, 1, 3));
     printf("network: %u switches, %u links\n", (unsigned)session.n, (unsigned)session.m);
-    if (offer(&wrong_ear).number == 0) {
-        fputs("firmware: the wrong ear was accepted\n", stderr);
-        exit(EXIT_FAILURE);
-    }
-    for (size_t i = 0; i < EARS; i++)
-        require("ear", offer(&ears[i]));
+    offer_wrong_ear();
+    offer_list();
     require("close", threeways_close(&session));
 }
 

@@ -28,6 +28,8 @@ typedef char threeways_refusal_has_4_bytes[sizeof(struct threeways_refusal) == 4
 
 static const uint16_t links[] = { 0, 1, 0, 2, 0, 3, 1, 2, 1, 3, 2, 3 };
 static const uint16_t ears[3][3] = { { 0, 2, 1 }, { 2, 3, 1 }, { 0, 3 } };
+static const uint16_t list[] = { 3, 0, 2, 1, 3, 2, 3, 1, 2, 0, 3 };   /* these ears, each preceded by its count */
+static const uint16_t torn[] = { 4, 0, 2, 1 };                        /* the first ear, with a count past the end */
 static struct threeways_session session, other, zeros;
 
 /* The session after load, and after its ears and close. The rest of each array is 0, of tree 3 after close it is n. */
@@ -38,6 +40,7 @@ static struct threeways_session done = { .stage = THREEWAYS_CLOSED, .n = 4, .m =
     .order = { 0, 2, 3, 1 }, .tree1 = { 0, 2, 0, 2 }, .tree2 = { 0, 0, 1, 1 }, .tree3 = { 0, 3, 3, 0 } };
 
 static uint16_t out[4] = { 9, 9, 9, 9 }, count = 9;
+static size_t accepted;
 static int failed;
 
 static void hold(int fact, const char *what)
@@ -52,6 +55,13 @@ static int is(struct threeways_refusal r, unsigned number, unsigned place) { ret
 
 static int same(const struct threeways_session *a, const struct threeways_session *b) { return memcmp(a, b, sizeof *a) == 0; }
 
+/* Offers a list where SIZE_MAX stands for the count of ears accepted, so that each byte of it has to be written. */
+static struct threeways_refusal offer(struct threeways_session *s, const uint16_t *numbers, size_t length)
+{
+    accepted = SIZE_MAX;
+    return threeways_ears(s, numbers, length, &accepted);
+}
+
 static struct threeways_refusal load(struct threeways_session *s) { return threeways_load(s, 4, links, 12, 0, 1, 3); }
 
 static void empty_session(void)
@@ -60,6 +70,10 @@ static void empty_session(void)
     hold(same(&session, &zeros), "a refused load leaves zeros");
     memset(&session, 0xa5, sizeof session);
     hold(is(threeways_ear(&session, ears[0], 3, &count), 19, 0) && count == 9, "any other stage is empty: ear is 19 at 0");
+    other = session;
+    hold(is(offer(&session, list, 11), 19, 0) && accepted == 0, "a list is then 19 at 0, with no ear accepted");
+    hold(is(offer(&session, NULL, 0), 0, 0) && accepted == 0, "a list of no numbers at NULL succeeds, with no ear accepted");
+    hold(same(&session, &other), "a list with no ear accepted leaves any memory");
     hold(is(threeways_clear(&session), 0, 0) && same(&session, &zeros), "clear leaves zeros of any memory");
     session.stage = 3;
     hold(is(load(&session), 0, 0) && same(&session, &loaded), "any other stage is empty: load succeeds, and fills the fields");
@@ -72,6 +86,8 @@ static void open_session(void)
     other = session;
     hold(is(threeways_ear(&session, NULL, 0, &count), 7, 0), "an ear of no numbers at NULL is 7 at 0");
     hold(is(threeways_ear(&session, ears[1], 3, &count), 12, 0), "a wrong first ear is 12 at 0");
+    hold(is(offer(&session, NULL, 0), 0, 0) && accepted == 0, "a list of no numbers at NULL succeeds on an open session");
+    hold(is(offer(&session, torn, 4), 7, 0) && accepted == 0, "a count past the end of the list is 7 at 0");
     hold(is(threeways_close(&session), 23, 0), "close with no ear is 23 at 0");
     hold(is(threeways_walk(&session, 2, 3, out, 4, &count), 21, 0), "walk of an open session is 21 at 0");
     hold(same(&session, &other) && count == 9 && out[0] == 9, "a refusal leaves session and outputs");
@@ -83,10 +99,31 @@ static void open_session(void)
     hold(is(threeways_close(&other), 0, 0) && same(&other, &done), "a copy is a session: close succeeds, and the fields are filled");
 }
 
+/* The same list in one call, and in two with a refusal between them. */
+static void whole_list(void)
+{
+    struct threeways_session *s = &session;
+    *s = loaded;
+    accepted = 9;
+    hold(is(threeways_ears_in(s->stage, s->n, s->m, s->root, s->first, s->last, &s->longs, &s->born, THREEWAYS_ARRAY(s->links),
+        THREEWAYS_ARRAY(s->used), THREEWAYS_ARRAY(s->births), THREEWAYS_ARRAY(s->order), THREEWAYS_ARRAY(s->tree1), s->tree2, 1023,
+        list, 11, &accepted), THREEWAYS_LENGTHS, 0), "a list with an array of another length is 255 at 0");
+    hold(accepted == 9 && same(s, &loaded), "it leaves the count and the session");
+    hold(is(offer(s, list, 11), 0, 0) && accepted == 3, "the whole list succeeds, with three ears accepted");
+    hold(is(threeways_close(s), 0, 0) && same(s, &done), "close succeeds, and the fields are those of ears one by one");
+    *s = loaded;
+    hold(is(offer(s, list, 10), 7, 0) && accepted == 2, "the list without its last number is 7 at 0, with two ears accepted");
+    hold(is(offer(s, list, 11), 11, 0) && accepted == 0, "its first ear is then 11 at 0: the accepted ones stay");
+    hold(is(offer(s, list + 8, 3), 0, 0) && accepted == 1, "its last ear succeeds: only the refused one changed nothing");
+    hold(is(threeways_close(s), 0, 0) && same(s, &done), "close succeeds, and the fields are the same");
+}
+
 static void closed_session(void)
 {
     const struct threeways_session *s = &other;
     count = 9;
+    hold(is(offer(&other, torn, 4), 22, 0) && accepted == 0, "a list on a closed session is 22 at 0, with no ear accepted");
+    hold(is(offer(&other, NULL, 0), 0, 0) && accepted == 0, "a list of no numbers at NULL succeeds on a closed session");
     hold(is(threeways_parent(s, 4, 1, out), 17, 0) && out[0] == 9, "parent of a switch that is not there is 17 at 0");
     hold(is(threeways_walk(s, 2, 3, NULL, 0, &count), 18, 0), "a walk with no room at NULL is 18 at 0");
     hold(is(threeways_walk(s, 2, 3, out, 2, &count), 18, 0) && out[0] == 9 && count == 9, "a walk with little room leaves the outputs");
@@ -94,7 +131,7 @@ static void closed_session(void)
         THREEWAYS_ARRAY(s->tree2), THREEWAYS_ARRAY(s->tree3), 2, 3, out), THREEWAYS_LENGTHS, 0) && out[0] == 9, "an array of another length is 255 at 0");
     hold(is(threeways_walk(s, 2, 3, out, 4, &count), 0, 0) && count == 3, "the walk of 2 in tree 3 has 3 switches");
     hold(out[0] == 2 && out[1] == 3 && out[2] == 0 && out[3] == 9, "the walk is 2 3 0, and the rest of the slice is left");
-    hold(same(&other, &done), "parent and walk leave the session");
+    hold(same(&other, &done), "parent and walk leave the session, and so did the lists");
     hold(is(threeways_clear(&other), 0, 0) && same(&other, &zeros), "clear leaves zeros of a closed session");
 }
 
@@ -102,6 +139,7 @@ int main(void)
 {
     empty_session();
     open_session();
+    whole_list();
     closed_session();
     return failed;
 }
