@@ -180,6 +180,33 @@ fn ear_open(
     }
 }
 
+// The same, by one search of the link for a later ear of two numbers that is accepted.
+fn offer_open(
+    st: State,
+    links: &[u16],
+    index: &[u16],
+    used: &mut [u8],
+    births: &mut [u16],
+    order: &mut [u16],
+    tree1: &mut [u16],
+    tree2: &mut [u16],
+    ear: &[u16],
+) -> OfferedIn
+    requires { ⌜ (length (now order) ≡ 1024) × IndexedIn st (now links) (now index) ⌝ }
+    ensures { λ r. ⌜ OffersOpen st (now (links .entry)) (now (used .entry)) (now (births .entry)) (now (order .entry)) (now (tree1 .entry)) (now (tree2 .entry)) (now (ear .entry)) r (now (used .exit)) (now (births .exit)) (now (order .exit)) (now (tree1 .exit)) (now (tree2 .exit)) ⌝ }
+{
+    let numbers = rows::least(2 * (st.m as usize), links.len());
+    let table = &links[..numbers];
+    let link = judge::short_link(st.n, table, index, births, used, st.born == 0, ear);
+    if link < numbers / 2 {
+        let mut state = st;
+        state.born = tables::accept_short(link, st.born, used, order);
+        let answer = Ear::New(0);
+        return OfferedIn { answer, state };
+    }
+    ear_open(st, links, index, used, births, order, tree1, tree2, ear)
+}
+
 // Offers an ear to an open session: 19 on an empty one, 22 on a closed one, then checks 7 to 16.
 pub fn ear(
     st: State,
@@ -198,7 +225,7 @@ pub fn ear(
     let stage = st.stage;
     match stage {
         Stage::Empty => ear_refused(19, 0, st),
-        Stage::Open => ear_open(st, links, index, used, births, order, tree1, tree2, ear),
+        Stage::Open => offer_open(st, links, index, used, births, order, tree1, tree2, ear),
         Stage::Closed => ear_refused(22, 0, st),
     }
 }

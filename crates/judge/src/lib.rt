@@ -12,7 +12,7 @@ ghost use Rattle.network.specs.Index.{Indexed};
 ghost use Rattle.network.specs.Load.{networkOf, tableOf};
 ghost use Rattle.rows.specs.Rows.{marked};
 ghost use Rattle.shape.specs.Shape.{earAnswer};
-ghost use Rattle.judge.specs.Ear.{placeChecks};
+ghost use Rattle.judge.specs.Ear.{placeChecks, ShortLink};
 
 // 13: the index of the first end that is unborn, or the length.
 fn first_unborn_end(births: &[u16], ear: &[u16]) -> usize
@@ -133,6 +133,53 @@ fn check_later(
         return Ear::Refused(16, (cut + 1) as u16);
     }
     Ear::New((len - 2) as u16)
+}
+
+// The link of a later ear of two numbers that passes checks 7 to 16, by one search; M for any other ear.
+pub fn short_link(
+    n: u16,
+    links: &[u16],
+    index: &[u16],
+    births: &[u16],
+    used: &[u8],
+    initial: bool,
+    ear: &[u16],
+) -> usize
+    requires { ⌜ Indexed (tableOf (now links)) (now index) ⌝ }
+    ensures { λ r. ⌜ ShortLink n (now (links .entry)) (now (births .entry)) (now (used .entry)) initial (now (ear .entry)) r ⌝ }
+{
+    let m = links.len() / 2;
+    if initial {
+        return m;
+    }
+    if ear.len() != 2 {
+        return m;
+    }
+    let a = ear[0];
+    let b = ear[1];
+    if n <= a {
+        return m;
+    }
+    if n <= b {
+        return m;
+    }
+    if a == b {
+        return m;
+    }
+    if rows::entry(births, a) == 0 {
+        return m;
+    }
+    if rows::entry(births, b) == 0 {
+        return m;
+    }
+    let l = network::link_by(links, index, a, b);
+    if m <= l {
+        return m;
+    }
+    if 0 < rows::mark_at(used, l) {
+        return m;
+    }
+    l
 }
 
 // The ear judged by checks 7 to 16, in number order: the first refusal, or the number of new switches.

@@ -13,7 +13,7 @@ ghost use Rattle.network.specs.Index.{Indexed};
 ghost use Rattle.network.specs.Load.{networkOf, tableOf};
 ghost use Rattle.order.specs.Placed.{placed, placedCount};
 ghost use Rattle.rows.specs.Rows.{marked};
-ghost use Rattle.tables.specs.Tables.{assigned, usedAfter, longsAfter, birthsAfter, neighbours, tree1After, tree2After, tablesOf, afterEar, tree3Of, closeAnswer};
+ghost use Rattle.tables.specs.Tables.{assigned, usedAfter, longsAfter, birthsAfter, neighbours, tree1After, tree2After, tablesOf, afterEar, TakesShort, tree3Of, closeAnswer};
 
 // The answer to close: closed, or a refusal's number and place.
 pub enum Close {
@@ -189,6 +189,15 @@ pub fn accept(
         longs: counted,
         born: grown,
     }
+}
+
+// Writes an accepted later ear of two numbers into the tables: its link is used. Gives the count of the order, which stays.
+pub fn accept_short(link: usize, born: u16, used: &mut [u8], order: &[u16]) -> u16
+    requires { ⌜ (1 ≤ born) × (length (now order) ≡ 1024) ⌝ }
+    ensures { λ r. ⌜ TakesShort link born (now (used .entry)) (now (order .entry)) r (now (used .exit)) ⌝ }
+{
+    rows::mark(used, link);
+    order::same_count(order, born)
 }
 
 // 23: closed, or the lowest unused link. At most 4,096 links, so that its place fits.

@@ -22,8 +22,8 @@ before-match2 c = c .before .before .before .before .before .before .before .bef
 abbrev before-match3 : tie.At-match-keys3 → tie.Start
 before-match3 c = c .before .before .before .before .before .before .before .before .before
 
-abbrev at-ear-open : tie.After-slice-known10 → tie.After-ear-open
-at-ear-open c = c .before .before .before .before .before .before .before .before .before .before
+abbrev at-offer-open : tie.After-slice-known10 → tie.After-offer-open
+at-offer-open c = c .before .before .before .before .before .before .before .before .before .before
 
 -- the session that the lent arrays hold, with tree 3 whatever it is
 abbrev held : tie.Start → List ℕ → Session
@@ -46,8 +46,8 @@ ear-refused-requires c κs = search needs
 enum-told-2 : tie.Need-enum-told-2
 enum-told-2 c = search needs
 
-ear-open-requires : tie.Need-ear-open-requires
-ear-open-requires c κs = before-match2 (c .before .before .before .before .before .before) .pre
+offer-open-requires : tie.Need-offer-open-requires
+offer-open-requires c κs = before-match2 (c .before .before .before .before .before .before) .pre
 
 enum-told-3 : tie.Need-enum-told-3
 enum-told-3 c = search needs
@@ -63,26 +63,26 @@ returns c =
     ∙ ap (settle (held start tree3) _) (sym (on-empty _ _ _ (c .before .enum-told .given .1)))
 
 same-length : tie.Need-same-length
-same-length c = at-ear-open c .ear-open .kept .1 .1 .1 .0
+same-length c = at-offer-open c .offer-open .kept .1 .1 .1 .0
 
 same-length-2 : tie.Need-same-length-2
-same-length-2 c = at-ear-open c .ear-open .kept .1 .1 .1 .1 .0
+same-length-2 c = at-offer-open c .offer-open .kept .1 .1 .1 .1 .0
 
 same-length-3 : tie.Need-same-length-3
-same-length-3 c = at-ear-open c .ear-open .kept .1 .1 .1 .1 .1 .0
+same-length-3 c = at-offer-open c .offer-open .kept .1 .1 .1 .1 .1 .0
 
 same-length-4 : tie.Need-same-length-4
-same-length-4 c = at-ear-open c .ear-open .kept .1 .1 .1 .1 .1 .1 .0
+same-length-4 c = at-offer-open c .offer-open .kept .1 .1 .1 .1 .1 .1 .0
 
 same-length-5 : tie.Need-same-length-5
-same-length-5 c = at-ear-open c .ear-open .kept .1 .1 .1 .1 .1 .1 .1 .0
+same-length-5 c = at-offer-open c .offer-open .kept .1 .1 .1 .1 .1 .1 .1 .0
 
 returns-2 : tie.Need-returns-2
 unfolding offeredBy
 returns-2 c =
-    let at-told = at-ear-open c .before .before .before .before .before .before in
+    let at-told = at-offer-open c .before .before .before .before .before .before in
     let start = before-match2 (at-told .before) in
-    λ tree3. at-ear-open c .ear-open .ensures tree3 ∙ ap (settle (held start tree3) _) (sym (on-open _ _ _ (at-told .enum-told2 .given .1)))
+    λ tree3. at-offer-open c .offer-open .ensures tree3 ∙ ap (settle (held start tree3) _) (sym (on-open _ _ _ (at-told .enum-told2 .given .1)))
 
 returns-3 : tie.Need-returns-3
 unfolding offeredBy
@@ -98,7 +98,7 @@ ear-spec =
     enum-told
     ear-refused-requires
     enum-told-2
-    ear-open-requires
+    offer-open-requires
     enum-told-3
     ear-refused-requires-2
     returns
