@@ -141,9 +141,9 @@ module _ (c : ℕ) (l : List ℕ) where
   unfolding earsFrom
   ears-whole h = cond-true _ _ (le-leb c (length l) h) ∙ ap (λ (es : Ears). take c l ∷ es) (ears-past c l)
 
-  pub ears-torn : length l < c → earsIn (c ∷ l) ≡ (c ∷ []) ∷ []
+  pub ears-past-end : length l < c → earsIn (c ∷ l) ≡ (c ∷ []) ∷ []
   unfolding earsFrom
-  ears-torn h = cond-false _ _ (lt-leb c (length l) h)
+  ears-past-end h = cond-false _ _ (lt-leb c (length l) h)
 
 -- after whole ears
 reads-on : (es : Ears) (t : List ℕ) → earsIn (flat es ++ t) ≡ es ++ earsIn t
@@ -160,7 +160,7 @@ unfolding earsFrom
 reads-ears =
     record {
       whole = λ es. ap earsIn (sym (append-nil (flat es))) ∙ reads-on es [] ∙ append-nil es;
-      past = λ es c l h. reads-on es (c ∷ l) ∙ ap (λ (r : Ears). es ++ r) (ears-torn c l h);
+      past = λ es c l h. reads-on es (c ∷ l) ∙ ap (λ (r : Ears). es ++ r) (ears-past-end c l h);
     }
 
 -- one number is 7 on every open session, so a count past the end is

@@ -8,7 +8,7 @@ use lib.ListN.{length, getD, take, drop, length-drop}
 use lib.Seq.{drop-length, drop-cons, drop-drop}
 use Rattle.mondschein.specs.Network.{Ears}
 use Rattle.mondschein.specs.WholeList.{earsFrom, earsIn}
-use Rattle.mondschein.proofs.WholeList.{ears-whole, ears-torn}
+use Rattle.mondschein.proofs.WholeList.{ears-whole, ears-past-end}
 use Rattle.offering.specs.Offering.{PartOf}
 
 module _ (l : List ℕ) (from : ℕ) (h : from < length l) where
@@ -36,12 +36,12 @@ module _ (l : List ℕ) (from : ℕ) (h : from < length l) where
         within = omega arith;
       }
 
-  pub part-torn : length l - from ≤ count → PartOf l from (record { start = from; end = from + 1; next = length l })
+  pub part-past-end : length l - from ≤ count → PartOf l from (record { start = from; end = from + 1; next = length l })
   unfolding earsFrom
-  part-torn m =
+  part-past-end m =
       record {
         ears =
-            ap earsIn begins ∙ ears-torn count rest (omega (arith, length-drop (suc from) l))
+            ap earsIn begins ∙ ears-past-end count rest (omega (arith, length-drop (suc from) l))
             ∙ ap (λ (r : Ears). (count ∷ []) ∷ r) (sym (ap earsIn (drop-length l)))
             ∙ ap (λ (e : List ℕ). e ∷ earsIn (drop (length l) l)) (sym (ap (take 1) begins) ∙ ap (λ (k : ℕ). take k (drop from l)) (let z : 1 ≡ from + 1 - from = omega arith in z));
         start = omega arith;

@@ -1,5 +1,5 @@
 use native.Mathlib.Omega.{arith}
-use Rattle.offering.proofs.Parts.{part-whole, part-torn}
+use Rattle.offering.proofs.Parts.{part-whole, part-past-end}
 use borrow.Author.Needs.{needs}
 use Rattle.offering.proofs.part_at.Statement.{statement}
 use Rattle.offering.proofs.part_at.Tie as tie
@@ -38,7 +38,7 @@ add-t4 : tie.Need-add-t4
 add-t4 c = search needs
 
 returns-2 : tie.Need-returns-2
-returns-2 c = part-torn (c .before .before .args .list .now) (c .before .before .args .from) (c .before .before .pre) (c .if1 .left)
+returns-2 c = part-past-end (c .before .before .args .list .now) (c .before .before .args .from) (c .before .before .pre) (c .if1 .left)
 
 pub part-at-spec : {M : Type 1} → statement M
 part-at-spec =
