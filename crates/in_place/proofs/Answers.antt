@@ -2,7 +2,7 @@
 -- A refusal leaves the session that was given.
 use mathlib.Core.Path.{_≡_, sym, ap, _∙_, subst}
 use mathlib.Core.Bool.{Bool, true, false, cond}
-use mathlib.Core.List.{List}
+use mathlib.Core.List.{List, [], _∷_}
 use Prim.Native.Nat.{ℕ, min, _*_, _≤_}
 use native.Mathlib.Omega.{arith}
 use lib.Dec.{eqb, ltb}
@@ -12,17 +12,18 @@ use Rattle.mondschein.specs.Network.{Network, size, former, latter, joins, join
 use Rattle.mondschein.specs.Judge.{Answer, given, refused, wrongLength, verdict, closing}
 use Rattle.mondschein.specs.Order.{parent3By}
 use Rattle.mondschein.specs.Outcome.{granted, settle}
+use Rattle.mondschein.specs.EmptyEar.{leftOver, isEmpty, entering}
 use Rattle.mondschein.proofs.Logic.{or-false}
 use Rattle.mondschein.proofs.Checks.{check-given}
 use Rattle.network.specs.Load.{networkOf, tableOf}
 use Rattle.network.specs.Index.{Indexed}
 use Rattle.rows.specs.Rows.{marked}
 use Rattle.rows.proofs.Prefixes.{least-take}
-use Rattle.tables.specs.Tables.{usedAfter, afterEar, tree3Of}
+use Rattle.tables.specs.Tables.{tablesOf, usedAfter, afterEar, usedAfterEmpty, afterOffer, tree3Of}
 use Rattle.in_place.specs.declared.Stage.{Stage}
 use Rattle.in_place.specs.declared.Stage.the-variants.{Empty, Open, Closed}
 use Rattle.in_place.specs.declared.Session.{Session}
-use Rattle.in_place.specs.Session.{networkIn, tablesIn, byStage}
+use Rattle.in_place.specs.Session.{networkIn, tablesIn, withTables, byStage}
 
 -- by the answer
 module _ (s next : Session) {a : Answer} where
@@ -77,6 +78,16 @@ module _ (s : Session) {r : ℕ} (q : r ≡ min (2 * s .m) (length (s .links))) 
   unfolding afterEar usedAfter linkOf joins former latter size
   after-lent e = ap (λ (l : List ℕ). afterEar (tableOf l) e (tablesIn s)) lent
 
+  -- and so does an empty one
+  empty-lent : usedAfterEmpty (tableOf (take r (s .links))) (s .births) (s .used) ≡ usedAfterEmpty (networkIn s) (s .births) (s .used)
+  unfolding usedAfterEmpty leftOver former latter size
+  empty-lent = ap (λ (l : List ℕ). usedAfterEmpty (tableOf l) (s .births) (s .used)) lent
+
+  pub after-empty : (e : List ℕ) {after : List ℕ} → isEmpty (eqb (s .born) 0) e ≡ true → after ≡ usedAfterEmpty (tableOf (take r (s .links))) (s .births) (s .used)
+      → tablesOf after (s .longs) (s .births) (s .born) (s .order) (s .tree1) (s .tree2) ≡ afterOffer (networkIn s) e (tablesIn s)
+  unfolding afterOffer
+  after-empty e t p = rw t (ap (λ (u : List ℕ). tablesOf u (s .longs) (s .births) (s .born) (s .order) (s .tree1) (s .tree2)) (p ∙ empty-lent))
+
   -- closing asks of the links which of them are used
   pub closing-lent : closing (tableOf (take r (s .links))) (marked (s .used)) ≡ closing (networkIn s) (marked (s .used))
   unfolding closing size
@@ -86,6 +97,18 @@ module _ (s : Session) {r : ℕ} (q : r ≡ min (2 * s .m) (length (s .links))) 
   pub tree3-lent : tree3Of (networkOf (s .n) (take r (s .links)) (s .root) 0 (s .last)) (s .births) (s .tree3) ≡ tree3Of (networkIn s) (s .births) (s .tree3)
   unfolding tree3Of parent3By joined joins former latter size
   tree3-lent = ap (λ (l : List ℕ). tree3Of (networkOf (s .n) l (s .root) 0 (s .last)) (s .births) (s .tree3)) lent
+
+-- an empty ear is given 0, and any other is judged
+module _ (s : Session) (e : List ℕ) where
+  pub empty-given : isEmpty (eqb (s .born) 0) e ≡ true → entering (networkIn s) (marked (s .births)) (marked (s .used)) (eqb (s .born) 0) e ≡ given (0 ∷ [])
+  unfolding entering
+  empty-given t = rw t
+
+  pub as-judged : isEmpty (eqb (s .born) 0) e ≡ false
+      → settle s (withTables s (afterEar (networkIn s) e (tablesIn s))) (verdict (networkIn s) (marked (s .births)) (marked (s .used)) (eqb (s .born) 0) e)
+      ≡ settle s (withTables s (afterOffer (networkIn s) e (tablesIn s))) (entering (networkIn s) (marked (s .births)) (marked (s .used)) (eqb (s .born) 0) e)
+  unfolding entering afterOffer
+  as-judged f = rw f
 
 -- an ear that is accepted has two numbers or more
 pub accepted-two : (net : Network) (isBorn isUsed : ℕ → Bool) (b : Bool) (e vs : List ℕ) → verdict net isBorn isUsed b e ≡ given vs → 2 ≤ length e

@@ -8,11 +8,12 @@ use lib.ListN.{length, take}
 use Rattle.mondschein.specs.Network.{Network}
 use Rattle.mondschein.specs.Judge.{Answer, refused, verdict, closing}
 use Rattle.mondschein.specs.Outcome.{settle}
+use Rattle.mondschein.specs.EmptyEar.{entering}
 use Rattle.network.specs.Load.{tableOf, loadAnswer}
 use Rattle.network.specs.Index.{Indexed}
 use Rattle.rows.specs.Rows.{marked}
 use Rattle.judge.specs.Ear.{earAnswer}
-use Rattle.tables.specs.Tables.{tablesOf, afterEar, tree3Of, closeAnswer}
+use Rattle.tables.specs.Tables.{tablesOf, afterEar, afterOffer, tree3Of, closeAnswer}
 use Rattle.walks.specs.declared.Parent.{Parent}
 use Rattle.walks.specs.declared.Walk.{Walk}
 use Rattle.walks.specs.Walks.{parentAnswer, walkAnswer}
@@ -72,12 +73,19 @@ pub record KeepsIndex (st : State) (links index : List ℕ) (answer : Answer) (s
 abbrev pub LoadsIn : Session → Network → LoadedIn → Session → Type 0
 LoadsIn s net r s′ = record { answer = loadAnswer (r .answer); after = s′ } ≡ loadedBy s net
 
--- ear on an open session: checks 7 to 16
+-- checks 7 to 16 of an ear on an open session
+abbrev pub JudgesOpen : State → List ℕ → List ℕ → List ℕ → List ℕ → List ℕ → List ℕ → List ℕ → OfferedIn → List ℕ → List ℕ → List ℕ → List ℕ → List ℕ → Type 0
+JudgesOpen st links used births order tree1 tree2 e r used′ births′ order′ tree1′ tree2′ =
+    (tree3 : List ℕ) → record { answer = earAnswer (r .answer); after = sessionIn (r .state) links used′ births′ order′ tree1′ tree2′ tree3 }
+    ≡ (let s = sessionIn st links used births order tree1 tree2 tree3 in
+    settle s (withTables s (afterEar (networkIn s) e (tablesIn s))) (verdict (networkIn s) (marked births) (marked used) (eqb (st .born) 0) e))
+
+-- ear on an open session: an empty one, or checks 7 to 16
 abbrev pub OffersOpen : State → List ℕ → List ℕ → List ℕ → List ℕ → List ℕ → List ℕ → List ℕ → OfferedIn → List ℕ → List ℕ → List ℕ → List ℕ → List ℕ → Type 0
 OffersOpen st links used births order tree1 tree2 e r used′ births′ order′ tree1′ tree2′ =
     (tree3 : List ℕ) → record { answer = earAnswer (r .answer); after = sessionIn (r .state) links used′ births′ order′ tree1′ tree2′ tree3 }
     ≡ (let s = sessionIn st links used births order tree1 tree2 tree3 in
-    settle s (withTables s (afterEar (networkIn s) e (tablesIn s))) (verdict (networkIn s) (marked births) (marked used) (eqb (st .born) 0) e))
+    settle s (withTables s (afterOffer (networkIn s) e (tablesIn s))) (entering (networkIn s) (marked births) (marked used) (eqb (st .born) 0) e))
 
 -- ear, whatever tree 3 holds
 abbrev pub OffersIn : State → List ℕ → List ℕ → List ℕ → List ℕ → List ℕ → List ℕ → List ℕ → OfferedIn → List ℕ → List ℕ → List ℕ → List ℕ → List ℕ → Type 0

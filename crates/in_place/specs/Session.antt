@@ -5,12 +5,13 @@ use Prim.Native.Nat.{ℕ, _-_, _*_}
 use lib.Dec.{eqb}
 use lib.ListN.{length, replicate, take}
 use Rattle.mondschein.specs.Network.{Network, size}
-use Rattle.mondschein.specs.Judge.{given, refused, loading, verdict, closing}
+use Rattle.mondschein.specs.Judge.{given, refused, loading, closing}
 use Rattle.mondschein.specs.Outcome.{Outcome, settle}
 use Rattle.mondschein.specs.WholeList.{offering, earsIn}
+use Rattle.mondschein.specs.EmptyEar.{entering}
 use Rattle.network.specs.Load.{networkOf}
 use Rattle.rows.specs.Rows.{marked}
-use Rattle.tables.specs.Tables.{Tables, tablesOf, afterEar, tree3Of}
+use Rattle.tables.specs.Tables.{Tables, tablesOf, afterOffer, tree3Of}
 use Rattle.in_place.specs.declared.Stage.{Stage}
 use Rattle.in_place.specs.declared.Stage.the-variants.{Empty, Open, Closed}
 use Rattle.in_place.specs.declared.Session.{Session}
@@ -103,11 +104,12 @@ byStage Closed a b c = c
 unfoldable pub loadedBy : Session → Network → Outcome Session
 loadedBy s net = settle s (openedWith net) (byStage (s .stage) (loading net) (refused 20 0) (refused 20 0))
 
--- ear: 19 on an empty session, 22 on a closed one, then checks 7 to 16; it is the first where nothing is born
+-- ear: 19 on an empty session, 22 on a closed one; then it is the first where nothing is born, an empty one after it takes the leftover
+-- links (document 02, Note 2), and any other is judged by checks 7 to 16
 unfoldable pub offeredBy : Session → List ℕ → Outcome Session
 offeredBy s e =
-    settle s (withTables s (afterEar (networkIn s) e (tablesIn s)))
-    (byStage (s .stage) (refused 19 0) (verdict (networkIn s) (marked (s .births)) (marked (s .used)) (eqb (s .born) 0) e) (refused 22 0))
+    settle s (withTables s (afterOffer (networkIn s) e (tablesIn s)))
+    (byStage (s .stage) (refused 19 0) (entering (networkIn s) (marked (s .births)) (marked (s .used)) (eqb (s .born) 0) e) (refused 22 0))
 
 -- ears (document 02, Note 1): those of the slice, one after another, up to the first refusal
 unfoldable pub listedBy : Session → List ℕ → Outcome Session

@@ -8,11 +8,13 @@ use tables::Close;
 use walks::Parent;
 use walks::Walk;
 ghost use mathlib.Core.Path.{_≡_};
+ghost use lib.Dec.{eqb};
 ghost use lib.ListN.{length};
+ghost use Rattle.mondschein.specs.EmptyEar.{isEmpty};
 ghost use Rattle.shape.specs.declared.Ear.the-variants as Ear·;
 ghost use Rattle.tables.specs.declared.Close.the-variants as Close·;
 ghost use Rattle.in_place.specs.Session.{emptySession};
-ghost use Rattle.in_place.specs.InPlace.{emptyState, closedState, IndexedIn, OffersOpen, OffersIn, ClosesOpen, ClosesIn, ParentIn, WalksIn};
+ghost use Rattle.in_place.specs.InPlace.{emptyState, closedState, IndexedIn, JudgesOpen, OffersOpen, OffersIn, ClosesOpen, ClosesIn, ParentIn, WalksIn};
 
 pub enum Stage {
     Empty,
@@ -141,7 +143,7 @@ fn ear_open(
     ear: &[u16],
 ) -> OfferedIn
     requires { ⌜ (length (now order) ≡ 1024) × IndexedIn st (now links) (now index) ⌝ }
-    ensures { λ r. ⌜ OffersOpen st (now (links .entry)) (now (used .entry)) (now (births .entry)) (now (order .entry)) (now (tree1 .entry)) (now (tree2 .entry)) (now (ear .entry)) r (now (used .exit)) (now (births .exit)) (now (order .exit)) (now (tree1 .exit)) (now (tree2 .exit)) ⌝ }
+    ensures { λ r. ⌜ JudgesOpen st (now (links .entry)) (now (used .entry)) (now (births .entry)) (now (order .entry)) (now (tree1 .entry)) (now (tree2 .entry)) (now (ear .entry)) r (now (used .exit)) (now (births .exit)) (now (order .exit)) (now (tree1 .exit)) (now (tree2 .exit)) ⌝ }
 {
     let numbers = rows::least(2 * (st.m as usize), links.len());
     let table = &links[..numbers];
@@ -180,6 +182,43 @@ fn ear_open(
     }
 }
 
+// The ear is an empty one: it has no number, and is not the first.
+fn is_empty(born: u16, ear: &[u16]) -> bool
+    ensures { λ r. ⌜ r ≡ isEmpty (eqb born 0) (now (ear .entry)) ⌝ }
+{
+    if born == 0 {
+        return false;
+    }
+    ear.len() == 0
+}
+
+// An empty ear takes the leftover links; any other is judged.
+fn enter_open(
+    st: State,
+    links: &[u16],
+    index: &[u16],
+    used: &mut [u8],
+    births: &mut [u16],
+    order: &mut [u16],
+    tree1: &mut [u16],
+    tree2: &mut [u16],
+    ear: &[u16],
+) -> OfferedIn
+    requires { ⌜ (length (now order) ≡ 1024) × IndexedIn st (now links) (now index) ⌝ }
+    ensures { λ r. ⌜ OffersOpen st (now (links .entry)) (now (used .entry)) (now (births .entry)) (now (order .entry)) (now (tree1 .entry)) (now (tree2 .entry)) (now (ear .entry)) r (now (used .exit)) (now (births .exit)) (now (order .exit)) (now (tree1 .exit)) (now (tree2 .exit)) ⌝ }
+{
+    if is_empty(st.born, ear) {
+        let numbers = rows::least(2 * (st.m as usize), links.len());
+        tables::take_left_over(&links[..numbers], births, used);
+        let none_new = Ear::New(0);
+        return OfferedIn {
+            answer: none_new,
+            state: st,
+        };
+    }
+    ear_open(st, links, index, used, births, order, tree1, tree2, ear)
+}
+
 // The same, by one search of the link for a later ear of two numbers that is accepted.
 fn offer_open(
     st: State,
@@ -204,10 +243,11 @@ fn offer_open(
         let answer = Ear::New(0);
         return OfferedIn { answer, state };
     }
-    ear_open(st, links, index, used, births, order, tree1, tree2, ear)
+    enter_open(st, links, index, used, births, order, tree1, tree2, ear)
 }
 
-// Offers an ear to an open session: 19 on an empty one, 22 on a closed one, then checks 7 to 16.
+// Offers an ear to an open session: 19 on an empty one, 22 on a closed one; then an empty ear after the first one takes the leftover
+// links, and any other is judged by checks 7 to 16.
 pub fn ear(
     st: State,
     links: &[u16],

@@ -1,10 +1,10 @@
--- Document 01's impostors, and one of Note 1, each as a program that is the machine but for one thing, with the demand that it does not
--- meet. So none of the demands 1, 2 and 3 holds of every program, nor does OneByOne.
+-- Document 01's impostors, and one each of Notes 1 and 2, as programs that are the machine but for one thing, with the demand that each does
+-- not meet. So none of the demands 1, 2 and 3 holds of every program, nor do OneByOne and EmptyEar.
 use mathlib.Core.Path.{_≡_, refl, ap}
 use mathlib.Core.Logic.{inr, ⊎-elim}
-use mathlib.Core.Bool.{_&&_, cond}
+use mathlib.Core.Bool.{true, _&&_, cond}
 use mathlib.Core.List.{List, [], _∷_, _++_, foldl, map}
-use Prim.Native.Nat.{ℕ}
+use Prim.Native.Nat.{ℕ, zero, suc, _<_}
 use native.Mathlib.Omega.{arith}
 use lib.Dec.{ltb}
 use lib.ListN.{length}
@@ -13,16 +13,17 @@ use Rattle.mondschein.specs.Judge.{Answer, given, refused, check, wrongSize, li
 use Rattle.mondschein.specs.Order.{position, fromA, between, extend, order, course, parent1, parent2, parent3By, parentOf}
 use Rattle.mondschein.specs.Outcome.{granted, Outcome, settle, unknown}
 use Rattle.mondschein.specs.WholeList.{offeringFrom, earsFrom, earsIn, flat}
+use Rattle.mondschein.specs.EmptyEar.{leftOver, shortEars, isEmpty, entering, answerTo, writtenOut}
 use Rattle.mondschein.specs.Mondschein.{Mondschein}
 use Rattle.mondschein.proofs.Outcomes.{never}
 use Rattle.mondschein.proofs.Excluded.{link-in-three-trees}
 use Rattle.machine.specs.Machine.{plan, closedPlan, State, empty, opened, closed, byState, Call, load, ear, ears, close, clear, longer, offer, answers, told, tells, parentCall, walkCall, orderOf, sizeOf, Program, historyFrom, history}
-use Rattle.machine.specs.Demands.{Demand1, OneByOne, Demand2, Demand3}
+use Rattle.machine.specs.Demands.{Demand1, OneByOne, Demand2, EmptyEar, Demand3}
 use Rattle.machine.proofs.Demand2.{plain}
 
 -- to unfold this is to unfold the judge, the tables and the machine
 computed : Unit {0}
-unfolding low any count holds size former latter joins joined passes linkOf born birth trail used isNew newCount newSwitches check wrongSize linkTooLarge selfLink repeatedLink wrongNames missingLink loading wrongLength tooLarge repeated notJoined usedAlready wrongCycle unbornEnd bornBetween otherNew otherUnborn rootEnd lastMisplaced noneUnborn verdict judge closing position fromA between extend order course parent1 parent2 parent3By parentOf granted settle unknown offeringFrom earsFrom flat longer offer answers told tells parentCall historyFrom
+unfolding low any count holds size former latter joins joined passes linkOf born birth trail used isNew newCount newSwitches check wrongSize linkTooLarge selfLink repeatedLink wrongNames missingLink loading wrongLength tooLarge repeated notJoined usedAlready wrongCycle unbornEnd bornBetween otherNew otherUnborn rootEnd lastMisplaced noneUnborn verdict judge closing position fromA between extend order course parent1 parent2 parent3By parentOf granted settle unknown offeringFrom earsFrom flat leftOver shortEars isEmpty entering answerTo writtenOut longer offer answers told tells parentCall historyFrom
 computed = tt
 
 -- document 01's first network, and the list that closes there
@@ -173,3 +174,26 @@ unfolding computed
 goes-on one =
     let z : _≡_ {A = ℕ} 1 0 = ap (λ (o : Outcome State). byState 0 (λ p. length (p .ears)) (λ p. 0) (o .after)) (one (opened (plan net [])) (flat ((0 ∷ []) ∷ cycle ∷ []))) in
     absurd (omega arith)
+
+-- one that grants an empty ear, says 0 and takes nothing
+abbrev takingNothing : State → Call → State
+takingNothing s (load net) = tells (load net) (answers (load net) s) s
+takingNothing s (ear []) = s
+takingNothing s (ear (x ∷ e)) = tells (ear (x ∷ e)) (answers (ear (x ∷ e)) s) s
+takingNothing s (ears l) = tells (ears l) (answers (ears l) s) s
+takingNothing s close = tells close (answers close s) s
+takingNothing s clear = tells clear (answers clear s) s
+
+pub takes-nothing : EmptyEar (record { Session = State; fresh = empty; after = takingNothing; answer = λ s c. answers c s; parent = parentCall; walk = walkCall; order = orderOf; size = sizeOf }) → ⊥
+unfolding computed
+takes-nothing d = never (d .closes (load net ∷ map ear long) (plan net long) refl (omega arith) all-born)
+  where
+    long : Ears
+    long = cycle ∷ (2 ∷ 3 ∷ 1 ∷ []) ∷ []
+
+    all-born : (v : ℕ) → v < 4 → born long v ≡ true
+    all-born zero l = refl
+    all-born (suc zero) l = refl
+    all-born (suc (suc zero)) l = refl
+    all-born (suc (suc (suc zero))) l = refl
+    all-born (suc (suc (suc (suc v)))) l = absurd (omega arith)

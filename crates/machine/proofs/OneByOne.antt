@@ -7,12 +7,15 @@ use mathlib.Core.List.{List, [], _∷_, _++_, foldl, foldl-append, map}
 use Prim.Native.Nat.{ℕ, zero, suc, _-_, _≤_, _<_}
 use native.Mathlib.Omega.{arith}
 use lib.ListN.{length, take}
-use Rattle.mondschein.specs.Network.{at, Ears, earAt}
+use Rattle.mondschein.specs.Network.{Network, at, Ears, earAt}
 use Rattle.mondschein.specs.Judge.{Answer, given, refused}
 use Rattle.mondschein.specs.Outcome.{granted, Outcome, settle}
 use Rattle.mondschein.specs.WholeList.{allAccepted, nextRefused, byAnswer, offeringFrom, offered, earsIn}
+use Rattle.mondschein.specs.EmptyEar.{entered}
+use Rattle.mondschein.proofs.Births.{Passing}
+use Rattle.mondschein.proofs.LongEars.{entered-answer}
 use Rattle.mondschein.proofs.WholeList.{given-values, offering-next, offering-ends, offering-given, offering-accepts, offering-single, offering-alike}
-use Rattle.machine.specs.Machine.{State, empty, Call, ear, ears, longer, offer, answers, told, tells, Program, machine, historyFrom, history, session}
+use Rattle.machine.specs.Machine.{plan, State, empty, opened, Call, ear, ears, longer, offer, answers, told, tells, Program, machine, historyFrom, history, session}
 use Rattle.machine.specs.Demands.{Refusal, offerBy, afterEars, OneByOne, Replaced}
 use Rattle.machine.proofs.History.{offer-grants, offer-refuses}
 
@@ -38,6 +41,17 @@ one-by-one s l =
     0 s s es refl in
     ap₂ (λ (a : Answer) (z : State). record { answer = a; after = z }) y
     (ap (λ (a : Answer). tells (ears l) a s) q ∙ offering-accepts offer longer offer-grants offer-refuses s es vs q ∙ x)
+
+-- ears that are accepted with those before them, in one call
+pub listed-run : (net : Network) (rest es : Ears) (k : ℕ) → Passing net (foldl (entered net) es rest)
+    → offeringFrom (offerBy machine) k (opened (plan net es)) rest .after ≡ opened (plan net (foldl (entered net) es rest))
+unfolding offeringFrom answers told tells longer
+listed-run net [] es k acc = refl
+listed-run net (e ∷ rest) es k acc =
+    let (vs, q) = entered-answer net es e rest acc in
+    ap (λ (o : Outcome State). o .after)
+    (offering-next (offerBy machine) k (opened (plan net es)) e rest (ap (λ (a : Answer). record { answer = a; after = tells (ear e) a (opened (plan net es)) }) q))
+    ∙ listed-run net rest (entered net es e) (suc k) acc
 
 -- a call that is answered so and leaves a session gives values, or refuses and leaves the session s
 abbrev pub Leaves : {A : Type 0} → ℕ → Call → A → Answer → A → Type 0

@@ -16,7 +16,7 @@ use Rattle.mondschein.specs.WholeList.{earsIn}
 use Rattle.mondschein.proofs.Outcomes.{never, settle-refused, settle-given}
 use Rattle.mondschein.proofs.WholeList.{offering-alike}
 use Rattle.machine.specs.Machine.{ear, ears}
-use Rattle.tables.specs.Tables.{afterEar, tree3Of}
+use Rattle.tables.specs.Tables.{afterOffer, tree3Of}
 use Rattle.in_place.specs.declared.Stage.{Stage}
 use Rattle.in_place.specs.declared.Stage.the-variants.{Empty, Open, Closed}
 use Rattle.in_place.specs.declared.Session.{Session}
@@ -129,7 +129,7 @@ module _ (mem : Memory) (s′ : Session) {vs : List ℕ} where
   ear-numbers e q =
       let k = mem .numbers in
       let s = sessionAt mem in
-      let w = withTables s (afterEar (networkIn s) e (tablesIn s)) in
+      let w = withTables s (afterOffer (networkIn s) e (tablesIn s)) in
       let told : offeredBy s e .answer ≡ given vs = sym (ap (λ (x : Outcome Session). x .answer) q) in
       let after : s′ ≡ w = ap (λ (x : Outcome Session). x .after) q ∙ ap (λ (x : Outcome Session). x .after) (settle-given s w told) in
       let isOpen : stageOf (k .stage) ≡ Open = given-open (s .stage) _ told in

@@ -1,21 +1,22 @@
 -- The number of new switches: what an accepted ear gives is the number of switches that it holds and no earlier ear holds.
 -- `judged` says so of the judge's answer.
-use mathlib.Core.Path.{_≡_, refl, sym, ap, _∙_}
+use mathlib.Core.Path.{_≡_, refl, sym, ap, _∙_, subst}
 use mathlib.Core.Logic.{⊎-elim}
 use mathlib.Core.Bool.{Bool, true, false, not}
 use mathlib.Core.List.{List, [], _∷_}
 use Prim.Native.Nat.{ℕ, zero, suc, pred, _≤_, _<_}
 use native.Mathlib.Omega.{arith}
 use lib.Dec.{eqb, ltb}
-use lib.ListN.{length}
+use lib.ListN.{length, take}
+use lib.Seq.{length-take-le}
 use borrow.Author.Tests.{lt-ltb, le-ltb, eqb-true}
-use Rattle.mondschein.specs.Network.{count, Network, at, Ears, born, isNew, newCount, newSwitches}
-use Rattle.mondschein.specs.Judge.{given, judge}
+use Rattle.mondschein.specs.Network.{count, Network, at, Ears, earAt, born, isNew, newCount, newSwitches}
+use Rattle.mondschein.specs.Judge.{given, judge, Accepted}
 use Rattle.mondschein.proofs.Logic.{which, true-and, false-and}
 use Rattle.mondschein.proofs.Search.{count-ext, count-shift, count-skip, count-all}
 use Rattle.mondschein.proofs.Lists.{at-same, count-list}
 use Rattle.mondschein.proofs.Checks.{Passed, given-passed, passed-given}
-use Rattle.mondschein.proofs.Births.{born-at}
+use Rattle.mondschein.proofs.Births.{Passing, born-at}
 use Rattle.mondschein.proofs.Inner.{where?}
 
 -- the new indices of a later ear of c numbers
@@ -74,3 +75,8 @@ module _ (net : Network) (es : Ears) (e : List ℕ) where
   -- every accepted ear gives it
   pub judge-count : (vs : List ℕ) → judge net es e ≡ given vs → vs ≡ newSwitches net es e ∷ []
   judge-count vs q = let r = judged (judge-passed vs q) in cc
+
+-- a list each of whose ears passes is accepted
+pub passing-accepted : (net : Network) (es : Ears) → Passing net es → Accepted net es
+passing-accepted net es acc i l =
+    (_, judged net (take i es) (earAt es i) (subst (λ (n : ℕ). Passed net (take i es) (eqb n 0) (earAt es i)) (sym (length-take-le i es (omega arith))) (acc i l)))

@@ -2,7 +2,7 @@
 -- Cited by every module here.
 use mathlib.Core.Path.{_≡_, refl, sym, _∙_}
 use mathlib.Core.Logic.{_⊎_, inl, inr, ⊎-elim, _≢_}
-use mathlib.Core.Bool.{Bool, true, false, _&&_, _||_, cond, true≢false}
+use mathlib.Core.Bool.{Bool, true, false, not, _&&_, _||_, cond, true≢false}
 use Prim.Native.Nat.{ℕ, _≤_, _<_}
 use native.Mathlib.Omega.{arith}
 use lib.Dec.{eqb, ltb}
@@ -65,6 +65,10 @@ false-and false b h = refl
 pub false-or : (a b : Bool) → a ≡ false → b ≡ false → (a || b) ≡ false
 false-or true b h k = h
 false-or false b h k = k
+
+pub or-not : (a b : Bool) → (a || (not a && b)) ≡ (a || b)
+or-not true b = refl
+or-not false b = refl
 
 pub cond-either : {A : Type 0} (b : Bool) (x y : A) → (cond b x y ≡ x) ⊎ (cond b x y ≡ y)
 cond-either true x y = inl refl

@@ -8,7 +8,7 @@ use native.Mathlib.Omega.{arith}
 use lib.Dec.{eqb, ltb}
 use lib.ListN.{length, take, drop, length-append}
 use lib.Seq.{take-at, drop-at}
-use borrow.Author.Tests.{le-leb, lt-leb}
+use borrow.Author.Tests.{le-leb, lt-leb, lt-ltb}
 use Rattle.mondschein.specs.Network.{Network, at, Ears}
 use Rattle.mondschein.specs.Judge.{Answer, given, refused, wrongLength, verdict, judge}
 use Rattle.mondschein.specs.Outcome.{Outcome}
@@ -163,11 +163,19 @@ reads-ears =
       past = λ es c l h. reads-on es (c ∷ l) ∙ ap (λ (r : Ears). es ++ r) (ears-past-end c l h);
     }
 
--- one number is 7 on every open session, so a count past the end is
-pub one-number : (net : Network) (es : Ears) (x : ℕ) → judge net es (x ∷ []) ≡ refused 7 0
-unfolding judge verdict wrongLength
-one-number net es x = check-fail 7 _ _ (or-left _ _ (go (eqb (length es) 0)))
-  where
-    go : (b : Bool) → ltb 1 (cond b 3 2) ≡ true
-    go true = refl
-    go false = refl
+-- one number is 7 for the judge, so a count past the end is; and so is none
+module _ (net : Network) (es : Ears) (e : List ℕ) where
+  too-few : length e < 2 → judge net es e ≡ refused 7 0
+  unfolding judge verdict wrongLength
+  too-few l = check-fail 7 _ _ (or-left _ _ (go (eqb (length es) 0)))
+    where
+      go : (b : Bool) → ltb (length e) (cond b 3 2) ≡ true
+      go true = lt-ltb (length e) 3 (omega arith)
+      go false = lt-ltb (length e) 2 l
+
+module _ (net : Network) (es : Ears) where
+  pub one-number : (x : ℕ) → judge net es (x ∷ []) ≡ refused 7 0
+  one-number x = too-few net es (x ∷ []) (omega arith)
+
+  pub no-number : judge net es [] ≡ refused 7 0
+  no-number = too-few net es [] (omega arith)

@@ -1,23 +1,18 @@
 -- A list of ears while the code offers them: what the whole list does is what the ears that are left do to the session reached.
 -- Begun, one more ear accepted, an ear refused, and all accepted. A session is given by tree 3, which an ear leaves.
-use mathlib.Core.Path.{_≡_, refl, sym, ap, _∙_, subst}
-use mathlib.Core.Bool.{Bool, true, false, cond}
+use mathlib.Core.Path.{_≡_, refl, sym, ap, _∙_}
 use mathlib.Core.List.{List, _∷_}
-use Prim.Native.Nat.{ℕ, suc, _+_, _-_, _*_, _≤_}
+use Prim.Native.Nat.{ℕ, suc, _+_, _-_, _≤_}
 use native.Mathlib.Omega.{arith}
 use lib.ListN.{length, take, drop}
 use lib.Seq.{drop-length}
 use Rattle.mondschein.specs.Judge.{Answer, given, refused}
-use Rattle.mondschein.specs.Outcome.{granted, Outcome, settle}
+use Rattle.mondschein.specs.Outcome.{Outcome}
 use Rattle.mondschein.specs.WholeList.{allAccepted, nextRefused, offeringFrom, earsFrom, earsIn}
 use Rattle.mondschein.proofs.WholeList.{offering-next, offering-ends}
-use Rattle.network.specs.Load.{tableOf}
-use Rattle.network.specs.Index.{Indexed}
-use Rattle.tables.specs.Tables.{afterEar}
 use Rattle.in_place.specs.declared.Session.{Session}
-use Rattle.in_place.specs.declared.State.{State}
-use Rattle.in_place.specs.Session.{networkIn, tablesIn, withTables, offeredBy, listedBy}
-use Rattle.in_place.specs.InPlace.{IndexedIn}
+use Rattle.in_place.specs.Session.{offeredBy, listedBy}
+use Rattle.in_place.proofs.Stores.{offered-m}
 use Rattle.offering.specs.declared.Part.{Part}
 use Rattle.offering.specs.Offering.{PartOf}
 
@@ -62,16 +57,7 @@ module _ (l : List ℕ) (s₀ s : List ℕ → Session) (k next : ℕ) (r : Reac
 
 -- an ear leaves the count of links
 pub same-m : (s s′ : Session) (e : List ℕ) {a : Answer} → record { answer = a; after = s′ } ≡ offeredBy s e → s′ .m ≡ s .m
-unfolding offeredBy settle
-same-m s s′ e q = ap (λ (o : Outcome Session). o .after .m) q ∙ go (granted (offeredBy s e .answer))
-  where
-    go : (b : Bool) → cond b (withTables s (afterEar (networkIn s) e (tablesIn s))) s .m ≡ s .m
-    go true = refl
-    go false = refl
-
--- so an index stays that of the links
-pub indexed-still : (st st′ : State) (links index : List ℕ) → st′ .m ≡ st .m → IndexedIn st links index → IndexedIn st′ links index
-indexed-still st st′ links index q i = subst (λ (m : ℕ). Indexed (tableOf (take (2 * m) links)) index) (sym q) i
+same-m s s′ e q = ap (λ (o : Outcome Session). o .after .m) q ∙ offered-m s e
 
 -- the arrays have kept their lengths
 pub record SameLengths (u₀ b₀ o₀ p₀ q₀ u b o p q : List ℕ) : Type 0 where

@@ -1,7 +1,7 @@
-// The tables of a session on lent slices: what one accepted ear changes in them, tree 3, and the check of closing.
+// The tables of a session on lent slices: what one accepted ear and an empty one change in them, tree 3, and the check of closing.
 // A number past the end of a table changes nothing.
 ghost use mathlib.Core.Path.{_≡_};
-ghost use mathlib.Core.Bool.{true, false, _&&_, cond};
+ghost use mathlib.Core.Bool.{true, false, not, _&&_, cond};
 ghost use mathlib.Core.List.{[]};
 ghost use Prim.Native.Nat.{suc, pred, _≤_};
 ghost use lib.Dec.{ltb};
@@ -13,7 +13,7 @@ ghost use Rattle.network.specs.Index.{Indexed};
 ghost use Rattle.network.specs.Load.{networkOf, tableOf};
 ghost use Rattle.order.specs.Placed.{placed, placedCount};
 ghost use Rattle.rows.specs.Rows.{marked};
-ghost use Rattle.tables.specs.Tables.{assigned, usedAfter, longsAfter, birthsAfter, neighbours, tree1After, tree2After, tablesOf, afterEar, TakesShort, tree3Of, closeAnswer};
+ghost use Rattle.tables.specs.Tables.{assigned, usedAfter, longsAfter, birthsAfter, neighbours, tree1After, tree2After, tablesOf, afterEar, usedAfterEmpty, TakesShort, tree3Of, closeAnswer};
 
 // The answer to close: closed, or a refusal's number and place.
 pub enum Close {
@@ -198,6 +198,34 @@ pub fn accept_short(link: usize, born: u16, used: &mut [u8], order: &[u16]) -> u
 {
     rows::mark(used, link);
     order::same_count(order, born)
+}
+
+// Link l from a to b is used, where it was unused and both are born.
+fn take_link(l: usize, a: u16, b: u16, births: &[u16], used: &mut [u8])
+    ensures { λ _. ⌜ now (used .exit) ≡ set (now (used .entry)) l (cond (not (marked (now (used .entry)) l) && (marked (now (births .entry)) a && marked (now (births .entry)) b)) 1 (at (now (used .entry)) l)) ⌝ }
+{
+    if rows::mark_at(used, l) != 0 {
+        return;
+    }
+    if rows::entry(births, a) == 0 {
+        return;
+    }
+    if rows::entry(births, b) == 0 {
+        return;
+    }
+    rows::mark(used, l);
+}
+
+// An empty ear: the leftover links are used, by one scan of the links.
+pub fn take_left_over(links: &[u16], births: &[u16], used: &mut [u8])
+    ensures { λ _. ⌜ now (used .exit) ≡ usedAfterEmpty (tableOf (now (links .entry))) (now (births .entry)) (now (used .entry)) ⌝ }
+{
+    let m = links.len() / 2;
+    let mut l = 0;
+    while l < m {
+        take_link(l, links[2 * l], links[2 * l + 1], births, used);
+        l += 1;
+    }
 }
 
 // 23: closed, or the lowest unused link. At most 4,096 links, so that its place fits.

@@ -2,17 +2,19 @@ use mathlib.Core.Path.{_≡_, sym, ap, _∙_, subst}
 use mathlib.Core.Bool.{Bool, false}
 use mathlib.Core.List.{List, [], _∷_}
 use Prim.Native.Nat.{ℕ, _/_, _<_}
+use native.Mathlib.Omega.{arith}
 use lib.Dec.{eqb}
 use lib.ListN.{length, take}
 use Rattle.mondschein.specs.Network.{at, linkOf}
 use Rattle.mondschein.specs.Judge.{given, verdict}
+use Rattle.mondschein.proofs.EmptyEar.{some-not-empty}
 use Rattle.network.specs.Load.{networkOf, tableOf}
 use Rattle.rows.specs.Rows.{marked}
 use Rattle.tables.proofs.Accepting.{later-born}
 use Rattle.in_place.specs.declared.Session.{Session}
 use Rattle.in_place.specs.Session.{withTables}
 use Rattle.in_place.specs.InPlace.{sessionIn}
-use Rattle.in_place.proofs.Answers.{table-whole, index-lent, verdict-lent, after-lent, after-given}
+use Rattle.in_place.proofs.Answers.{table-whole, index-lent, verdict-lent, after-lent, after-given, as-judged}
 use borrow.Author.Needs.{needs}
 use Rattle.in_place.proofs.offer_open.Statement.{statement}
 use Rattle.in_place.proofs.offer_open.Tie as tie
@@ -90,9 +92,10 @@ returns c =
     ∙ ap (λ (b : Bool). verdict (networkOf (s .n) (take (at-least .least .result) (s .links)) (s .root) (s .first) (s .last)) (marked (s .births)) (marked (s .used)) b e) later
     ∙ given-0 (s .root) (s .first) (s .last))
     (ap (withTables s) (c .before .before .accept-short .ensures _ e (s .births) (s .tree1) (s .tree2) (s .longs) two link ∙ after-lent s (at-least .least .ensures) e))
+    ∙ as-judged s e (some-not-empty (eqb (s .born) 0) e (omega (arith, two)))
 
-ear-open-requires : tie.Need-ear-open-requires
-ear-open-requires c κs = search needs
+enter-open-requires : tie.Need-enter-open-requires
+enter-open-requires c κs = search needs
 
 same-length-4 : tie.Need-same-length-4
 same-length-4 c = search needs
@@ -126,7 +129,7 @@ offer-open-spec =
     same-length-2
     same-length-3
     returns
-    ear-open-requires
+    enter-open-requires
     same-length-4
     same-length-5
     same-length-6

@@ -10,7 +10,8 @@ use Rattle.in_place.specs.Session.{offeredBy}
 use Rattle.in_place.specs.InPlace.{sessionIn}
 use Rattle.offering.specs.declared.ListedIn.{ListedIn}
 use Rattle.offering.specs.Offering.{earsAnswer}
-use Rattle.offering.proofs.Lists.{Reaches, reaches-begin, reaches-all, reaches-more, reaches-end, same-m, indexed-still, SameLengths, same-begin, same-again}
+use Rattle.in_place.proofs.Stores.{index-kept}
+use Rattle.offering.proofs.Lists.{Reaches, reaches-begin, reaches-all, reaches-more, reaches-end, same-m, SameLengths, same-begin, same-again}
 use borrow.Author.Needs.{needs}
 use Rattle.offering.proofs.offer_each.Statement.{statement}
 use Rattle.offering.proofs.offer_each.Tie as tie
@@ -84,7 +85,7 @@ ear-requires c κs =
     let at-loop = c .before .before .before .before .before .before .before .before in
     let start = before-loop at-loop in
     let (r, same, m) = at-loop .loop .inv in
-    (same .order ∙ start .pre .0, indexed-still (start .args .st) (at-loop .loop .state) (start .args .links .now) (start .args .index .now) m (start .pre .1))
+    (same .order ∙ start .pre .0, index-kept (start .args .st) (at-loop .loop .state) (start .args .links .now) (start .args .index .now) m (start .pre .1))
 
 enum-known-answer : tie.Need-enum-known-answer Inv-loop μ-loop
 enum-known-answer c = search needs
