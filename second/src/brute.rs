@@ -2,6 +2,8 @@
 //! whole lists and by trying everything. For small networks; it shares no
 //! code with the judge and knows nothing of refusal numbers.
 
+use std::collections::HashSet;
+
 use crate::network::Site;
 
 /// A pair of switches without a direction.
@@ -101,6 +103,27 @@ pub fn is_ear_decomposition(site: &Site, list: &[Vec<u16>]) -> bool {
     (0..site.switches).all(|s| birth(list, s).is_some())
 }
 
+/// The short ears that an empty ear after this list stands for (document 02, Note 2): in table order, the links that
+/// no ear has and whose two switches are in ears.
+pub fn leftover(site: &Site, list: &[Vec<u16>]) -> Vec<Vec<u16>> {
+    let used: HashSet<Pair> = (0..list.len()).flat_map(|i| links_of(list, i)).collect();
+    let born: HashSet<u16> = list.iter().flatten().copied().collect();
+    let left = |&&(a, b): &&Pair| !used.contains(&pair(a, b)) && born.contains(&a) && born.contains(&b);
+    site.links.iter().filter(left).map(|&(a, b)| vec![a, b]).collect()
+}
+
+/// The list with the short ears written out that its empty ears stand for. Before the first ear an empty one stays.
+pub fn written_out(site: &Site, list: &[Vec<u16>]) -> Vec<Vec<u16>> {
+    let mut written: Vec<Vec<u16>> = Vec::new();
+    for ear in list {
+        match ear.is_empty() && !written.is_empty() {
+            true => written.extend(leftover(site, &written)),
+            false => written.push(ear.clone()),
+        }
+    }
+    written
+}
+
 /// Definition 4, of an ear decomposition.
 fn is_non_separating(site: &Site, list: &[Vec<u16>], last_long: usize) -> bool {
     let long = (0..list.len()).filter(|&i| i == 0 || list[i].len() > 2);
@@ -198,7 +221,7 @@ pub fn no_two_walks_share(site: &Site, switch: u16, walks: [&[u16]; 3]) -> Resul
 /// no link lies in all three. `tables[t][s]` is the entry of switch s.
 pub fn are_spanning_trees(site: &Site, tables: &[Vec<u16>; 3]) -> Result<(), String> {
     let n = site.switches as usize;
-    let linked: std::collections::HashSet<Pair> = site.links.iter().map(|&(a, b)| pair(a, b)).collect();
+    let linked: HashSet<Pair> = site.links.iter().map(|&(a, b)| pair(a, b)).collect();
     let mut in_trees: std::collections::HashMap<Pair, [bool; 3]> = Default::default();
     for (t, table) in tables.iter().enumerate() {
         if table[site.root as usize] != site.root {

@@ -123,8 +123,8 @@ pub fn refusals_told(refusals: &BTreeMap<u16, BTreeMap<u16, usize>>) -> String {
 pub fn summary(counts: &Counts) -> String {
     format!(
         "equal: {} scripts, {} lines, {} opened, {} ears taken, {} closed, {} cleared, {} unread; \
-         {} lists judged by Definition 9 ({} accepted); {} walks, three walks of {} switches and all of {} sites checked; \
-         refusals (number:times/places) {}",
+         empty ears: {}; {} lists judged by Definition 9 ({} accepted); \
+         {} walks, three walks of {} switches and all of {} sites checked; refusals (number:times/places) {}",
         counts.scripts,
         counts.lines,
         counts.opened,
@@ -132,6 +132,7 @@ pub fn summary(counts: &Counts) -> String {
         counts.closed,
         counts.cleared,
         counts.unread,
+        counts.empty_ears,
         counts.lists_judged,
         counts.lists_accepted,
         counts.walks,

@@ -6,16 +6,19 @@ use crate::network::{Site, MIN_LINKS};
 use crate::random::Random;
 
 /// An ear for an open session, damaged in a random way. `ears` is a list that
-/// closes the session's network, `at` how far it has been offered.
+/// closes the session's network, `at` how far it has been offered. The ear
+/// that is damaged is not empty.
 pub fn damaged_ear(random: &mut Random, judge: &Judge, ears: &[Vec<u16>], at: usize) -> Vec<u16> {
     let network = &judge.network;
     let n = network.switches;
     let any = |random: &mut Random| random.below(n) as u16;
-    let mut ear = ears[at.min(ears.len() - 1)].clone();
+    let at = at.min(ears.len() - 1);
+    let with_numbers = |ears: &[Vec<u16>]| ears.iter().find(|ear| !ear.is_empty()).cloned();
+    let mut ear = with_numbers(&ears[at..]).or(with_numbers(ears)).expect("a list has ears with numbers");
     if random.chance(30) {
         // A long one of those to come.
         for _ in 0..6 {
-            let other = random.pick(&ears[at.min(ears.len() - 1)..]);
+            let other = random.pick(&ears[at..]);
             if other.len() > ear.len() {
                 ear = other.clone();
             }
@@ -54,21 +57,21 @@ pub fn damaged_ear(random: &mut Random, judge: &Judge, ears: &[Vec<u16>], at: us
             ear
         }
         7 => {
-            let mut earlier = ears[random.below(at.min(ears.len() - 1) + 1)].clone();
+            let mut earlier = ears[random.below(at + 1)].clone();
             if random.chance(50) {
                 earlier.reverse();
             }
             earlier
         }
         8 => {
-            let earlier = &ears[random.below(at.min(ears.len() - 1) + 1)];
+            let earlier = with_numbers(&ears[random.below(at + 1)..]).unwrap_or(ear);
             let from = random.below(earlier.len() - 1);
             let to = random.within(from + 1, earlier.len() - 1);
             earlier[from..=to].to_vec()
         }
         9 => vec![network.first, network.root],
         10 => random.pick(ears).clone(),
-        11 => joined_ears(random, &ears[at.min(ears.len() - 1)..], ear),
+        11 => joined_ears(random, &ears[at..], ear),
         12 => last_early(random, judge),
         13 => last_by_root(random, judge),
         14 => {
@@ -100,11 +103,11 @@ fn joined_ears(random: &mut Random, ears: &[Vec<u16>], ear: Vec<u16>) -> Vec<u16
     let end = joined[joined.len() - 1];
     let from = random.below(ears.len());
     for other in ears[from..].iter().chain(&ears[..from]) {
-        if other[0] == end {
+        if other.first() == Some(&end) {
             joined.extend(&other[1..]);
             break;
         }
-        if other[other.len() - 1] == end {
+        if other.last() == Some(&end) {
             joined.extend(other.iter().rev().skip(1));
             break;
         }
@@ -199,8 +202,8 @@ pub fn tried_in_vain(random: &mut Random, judge: &Judge) -> Vec<u16> {
             return ear;
         }
     }
-    // Cut off its end: refused, as it ends at an unborn switch or is too short.
-    ear.truncate(ear.len() - 1);
+    // Cut off its end, but not its only number: refused, as it ends at an unborn switch or is too short.
+    ear.truncate((ear.len() - 1).max(1));
     ear
 }
 

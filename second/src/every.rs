@@ -1,6 +1,9 @@
 //! Every list of ears on a small site: all lists of paths that part the links
-//! other than root-first, in every sequence, tried one after the other.
+//! other than root-first, in every sequence, tried one after the other. At
+//! most one empty ear stands among them, at any place; it takes links as if
+//! every ear before it were accepted.
 
+use crate::lines::ear_line;
 use crate::network::Site;
 
 /// The four-switch network of document 01.
@@ -36,11 +39,25 @@ impl Search<'_> {
     fn next_ear(&mut self) {
         if self.used.iter().all(|&used| used) {
             (self.each)(&self.list);
-            return;
+        }
+        if self.list.iter().all(|ear| !ear.is_empty()) {
+            self.empty_ear();
         }
         for start in 0..self.site.switches {
             self.longer(vec![start]);
         }
+    }
+
+    fn empty_ear(&mut self) {
+        let before = self.used.clone();
+        let is_born = |s: &u16| self.list.iter().any(|ear| ear.contains(s));
+        for ((a, b), used) in self.links.iter().zip(&mut self.used) {
+            *used |= is_born(a) && is_born(b);
+        }
+        self.list.push(Vec::new());
+        self.next_ear();
+        self.list.pop();
+        self.used = before;
     }
 
     /// Goes on with this path: ends it as an ear, or makes it longer.
@@ -76,8 +93,7 @@ pub fn lines_for(site: &Site, list: &[Vec<u16>]) -> String {
     }
     lines += "(open)\n";
     for ear in list {
-        let numbers: Vec<String> = ear.iter().map(u16::to_string).collect();
-        lines += &format!("(ear {})\n", numbers.join(" "));
+        lines += &(ear_line(ear) + "\n");
     }
     lines + &format!("(close)\n(walk {last} 1)\n(walk {last} 2)\n(clear)\n")
 }

@@ -4,6 +4,7 @@
 use std::collections::BTreeMap;
 
 use crate::brute;
+use crate::empty_ears::EmptyEars;
 use crate::lines::{read_form, Form, LINES, LINE_BYTES};
 use crate::network::{Site, MAX_LINKS};
 
@@ -17,6 +18,7 @@ pub struct Counts {
     pub lines: usize,
     pub opened: usize,
     pub ears: usize,
+    pub empty_ears: EmptyEars,
     pub closed: usize,
     pub cleared: usize,
     pub unread: usize,
@@ -31,7 +33,7 @@ pub struct Counts {
     pub refusals: BTreeMap<u16, BTreeMap<u16, usize>>,
 }
 
-/// A loaded network and what happened to it.
+/// A loaded network and what happened to it. The lists have the short ears of accepted empty ears written out.
 struct Loaded {
     site: Site,
     offered: Vec<Vec<u16>>,
@@ -142,15 +144,21 @@ fn check_open(
 }
 
 fn check_ear(ear: Vec<u16>, loaded: &mut Option<Loaded>, answer: Answer, counts: &mut Counts) -> Result<(), String> {
+    if let (true, Answer::Refused(number, _)) = (ear.is_empty(), &answer) {
+        counts.empty_ears.add(Err(*number));
+    }
     let Some(loaded) = loaded else {
         return expect(answer == Answer::Refused(19, 0));
     };
     if loaded.closed {
         return expect(answer == Answer::Refused(22, 0));
     }
+    if ear.is_empty() && !loaded.accepted.is_empty() {
+        return check_empty_ear(loaded, answer, counts);
+    }
     loaded.offered.push(ear.clone());
     match answer {
-        Answer::New(new) => {
+        Answer::New(new) if !ear.is_empty() => {
             counts.ears += 1;
             let born = |s: &&u16| loaded.accepted.iter().any(|earlier| earlier.contains(s));
             if loaded.site.switches <= SMALL && ear.iter().filter(|s| !born(s)).count() != new as usize {
@@ -159,8 +167,20 @@ fn check_ear(ear: Vec<u16>, loaded: &mut Option<Loaded>, answer: Answer, counts:
             loaded.accepted.push(ear);
             Ok(())
         }
+        Answer::Refused(number, place) if ear.is_empty() => expect((number, place) == (7, 0)),
         answer => expect(matches!(answer, Answer::Refused(7..=16, _))),
     }
+}
+
+/// After the first ear an empty one is granted, and stands for short ears.
+fn check_empty_ear(loaded: &mut Loaded, answer: Answer, counts: &mut Counts) -> Result<(), String> {
+    expect(answer == Answer::New(0))?;
+    let short = brute::leftover(&loaded.site, &loaded.accepted);
+    counts.ears += 1;
+    counts.empty_ears.add(Ok(short.len()));
+    loaded.offered.extend(short.clone());
+    loaded.accepted.extend(short);
+    Ok(())
 }
 
 fn check_close(loaded: &mut Option<Loaded>, answer: Answer, counts: &mut Counts) -> Result<(), String> {

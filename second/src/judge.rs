@@ -1,5 +1,5 @@
 //! The judge of an open session: the checks of ears, refusals 7 to 16 of
-//! document 01, and 23 on closing.
+//! document 01, and 23 on closing; and the empty ear of document 02, Note 2.
 
 use crate::network::Network;
 use crate::{refuse, Plant, Refusal};
@@ -14,7 +14,7 @@ pub struct Judge {
     pub birth: Vec<u32>,
     /// The long ears as they were written.
     pub long_ears: Vec<Vec<u16>>,
-    /// How many ears were accepted.
+    /// How many ears were accepted, with those that empty ears stand for.
     ears: u32,
     unborn: usize,
     used: Vec<bool>,
@@ -50,6 +50,10 @@ impl Judge {
 
     /// Offers an ear; gives the number of its new switches.
     pub fn ear(&mut self, ear: &[u16]) -> Result<usize, Refusal> {
+        if ear.is_empty() && self.ears > 0 {
+            self.take_leftover_links();
+            return Ok(0);
+        }
         let links = self.check_list(ear)?;
         let new = if self.ears == 0 {
             self.check_first(ear)?;
@@ -171,6 +175,20 @@ impl Judge {
             self.long_ears.push(ear.to_vec());
         }
         self.ears += 1;
+    }
+
+    /// An empty ear takes every unused link whose two switches are born, as short ears in table order.
+    fn take_leftover_links(&mut self) {
+        for (link, &(a, b)) in self.network.table.iter().enumerate() {
+            let born = match self.plant {
+                Plant::WrongLinks => self.is_born(a) || self.is_born(b),
+                _ => self.is_born(a) && self.is_born(b),
+            };
+            if born && !self.used[link] {
+                self.used[link] = true;
+                self.ears += 1;
+            }
+        }
     }
 
     /// Refusal 23 with the lowest unused link, if one is left.

@@ -7,7 +7,7 @@
 //!
 //! What checks them:
 //! `brute` has Definition 9 and demand 3 over whole lists, `follow` holds an
-//! output against them, `random`, `plan`, `damage` and `script` make inputs,
+//! output against them, `empty_ears` counts empty ears, `random`, `plan`, `damage` and `script` make inputs,
 //! `compare` and `shrink` find a difference and make it small.
 //!
 //! With the static archive of the first program linked (the cfg `archive`):
@@ -21,6 +21,7 @@ pub mod calls;
 pub mod compare;
 pub mod damage;
 pub mod dialogue;
+pub mod empty_ears;
 pub mod every;
 pub mod follow;
 pub mod judge;
@@ -58,6 +59,8 @@ pub enum Plant {
     WrongParent,
     /// Check 15 forgets that an end may be root.
     WrongList,
+    /// An empty ear takes links with one switch unborn too.
+    WrongLinks,
 }
 
 impl Plant {
@@ -67,6 +70,7 @@ impl Plant {
             1 => Some(Plant::WrongPlace),
             2 => Some(Plant::WrongParent),
             3 => Some(Plant::WrongList),
+            4 => Some(Plant::WrongLinks),
             _ => None,
         }
     }

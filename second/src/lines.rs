@@ -53,6 +53,12 @@ pub fn read_form(line: &[u8]) -> Option<Form> {
     (rest.0 == b")").then_some(form)
 }
 
+/// The line that offers an ear.
+pub fn ear_line(ear: &[u16]) -> String {
+    let numbers: String = ear.iter().map(|s| format!(" {s}")).collect();
+    format!("(ear{numbers})")
+}
+
 /// What of the line is still to be read.
 struct Rest<'a>(&'a [u8]);
 

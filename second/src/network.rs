@@ -25,6 +25,8 @@ pub struct Network {
     pub root: u16,
     pub first: u16,
     pub last: u16,
+    /// The two switches of each link, as the link table has them.
+    pub table: Vec<(u16, u16)>,
     /// The neighbours of switch s are `near[start[s]..start[s + 1]]`.
     start: Vec<usize>,
     near: Vec<Neighbour>,
@@ -103,6 +105,7 @@ impl Network {
             root: site.root,
             first: site.first,
             last: site.last,
+            table: site.links.clone(),
             start,
             near,
         }

@@ -40,6 +40,10 @@ pub enum ShortEars {
     AtOnce,
     AtTheEnd,
     Anywhere,
+    /// Left to one empty ear at the end.
+    Left,
+    /// Left to empty ears anywhere, or offered before one of them takes them.
+    LeftAnywhere,
 }
 
 impl Shape {
@@ -78,6 +82,8 @@ impl Shape {
                 ShortEars::AtTheEnd,
                 ShortEars::Anywhere,
                 ShortEars::Anywhere,
+                ShortEars::Left,
+                ShortEars::LeftAnywhere,
             ]),
             tidy: random.chance(15),
         }
@@ -102,7 +108,13 @@ impl Plan {
         sketch.add_other_links(random);
         let long_ears = std::mem::take(&mut sketch.long_ears);
         let list = list_of(long_ears, &sketch.short_ears(), &sketch.birth, shape, random);
-        number_afresh(list, shape, random)
+        let mut plan = number_afresh(list, shape, random);
+        match shape.short_ears {
+            ShortEars::Left => leave_short_ears(&mut plan.ears),
+            ShortEars::LeftAnywhere => leave_some_links(&mut plan.ears, random),
+            _ => {}
+        }
+        plan
     }
 
     /// The plan of a list of ears. Its links are those of the ears as they come, after the one from root to first.
@@ -266,7 +278,7 @@ fn list_of(
         let slot = match shape.short_ears {
             ShortEars::AtOnce => at_once,
             ShortEars::AtTheEnd => end,
-            ShortEars::Anywhere => random.within(at_once, end),
+            _ => random.within(at_once, end),
         };
         after[slot].push(if random.chance(50) { vec![a, b] } else { vec![b, a] });
     }
@@ -277,6 +289,30 @@ fn list_of(
         list.extend(short);
     }
     list
+}
+
+/// Leaves the short ears of a list to one empty ear at its end.
+pub fn leave_short_ears(list: &mut Vec<Vec<u16>>) {
+    list.retain(|ear| ear.len() > 2);
+    list.push(Vec::new());
+}
+
+/// Puts empty ears into a list, some twice and one at its end, and drops the short ears whose links they have taken.
+fn leave_some_links(list: &mut Vec<Vec<u16>>, random: &mut Random) {
+    let often = *random.pick(&[5, 20, 50]);
+    let (mut born, mut taken) = (HashSet::new(), HashSet::new());
+    for ear in std::mem::take(list) {
+        if ear.len() == 2 && ear.iter().all(|s| taken.contains(s)) {
+            continue;
+        }
+        born.extend(ear.iter().copied());
+        list.push(ear);
+        while random.chance(often) {
+            list.push(Vec::new());
+            taken.clone_from(&born);
+        }
+    }
+    list.push(Vec::new());
 }
 
 /// Numbers the switches at random, and writes the links at random.
@@ -319,7 +355,7 @@ mod tests {
             let mut random = Random::new(7, index);
             let switches = random.within(4, 9);
             let plan = Plan::random(&mut random, switches);
-            assert!(brute::is_mondschein(&plan.site, &plan.ears), "{plan:?}");
+            assert!(brute::is_mondschein(&plan.site, &brute::written_out(&plan.site, &plan.ears)), "{plan:?}");
         }
     }
 }

@@ -3,7 +3,7 @@
 use crate::damage::{
     damage_site, damaged_ear, form_line, last_by_root, long_ear_line, malformed_line, tried_ear, tried_in_vain,
 };
-use crate::lines::LINES;
+use crate::lines::{ear_line, LINES};
 use crate::network::{Site, MAX_LINKS};
 use crate::plan::{Plan, Shape, ShortEars};
 use crate::random::Random;
@@ -79,13 +79,15 @@ impl Script {
     }
 
     fn ear(&mut self, ear: &[u16]) {
-        let mut line = String::from("(ear");
-        for s in ear {
-            line += &format!(" {s}");
-        }
-        line.push(')');
-        self.text(&line);
+        self.text(&ear_line(ear));
         let _ = self.session.ear(ear);
+    }
+
+    /// Empty ears in a row, at least one in so many of a hundred cases.
+    fn empty_ears(&mut self, random: &mut Random, percent: usize) {
+        while random.chance(percent) {
+            self.ear(&[]);
+        }
     }
 
     fn close(&mut self) {
@@ -151,7 +153,9 @@ fn site_lines(random: &mut Random, out: &mut Script, site: &Site) {
 fn planned(random: &mut Random, out: &mut Script, switches: usize, noise: usize) {
     let plan = Plan::random(random, switches);
     site_lines(random, out, &plan.site);
+    out.empty_ears(random, 5);
     out.open(&plan.site);
+    out.empty_ears(random, 5);
     let drop = if random.chance(10) { random.below(plan.ears.len()) } else { usize::MAX };
     for (at, ear) in plan.ears.iter().enumerate() {
         let noise_here = match ear.len() {
@@ -170,7 +174,9 @@ fn planned(random: &mut Random, out: &mut Script, switches: usize, noise: usize)
     while random.chance(noise) {
         noisy_call(random, out, &plan, plan.ears.len());
     }
+    out.empty_ears(random, 20);
     out.close();
+    out.empty_ears(random, 5);
     walks(random, out, switches);
     if random.chance(30) {
         after_close(random, out, &plan);
@@ -274,6 +280,7 @@ fn tried_list(random: &mut Random, out: &mut Script) {
         let ear = match random.below(10) {
             0 => damaged_ear(random, judge, &plan.ears, at),
             1 if judge.is_born(judge.network.root) => last_by_root(random, judge),
+            2 => Vec::new(),
             _ => tried_ear(random, judge),
         };
         out.ear(&ear);
@@ -281,7 +288,8 @@ fn tried_list(random: &mut Random, out: &mut Script) {
             out.close();
         }
     }
-    if random.chance(80) {
+    out.empty_ears(random, 40);
+    if random.chance(60) {
         for (a, b) in left_over(out) {
             out.ear(&[a, b]);
         }
@@ -320,7 +328,7 @@ fn mixed_list(random: &mut Random, out: &mut Script) {
                 ears.insert(other.min(ears.len()), ear);
             }
             3 => ears[one].reverse(),
-            4 => {
+            4 if !ears[one].is_empty() => {
                 let cut = random.below(ears[one].len());
                 let end = ears[one].split_off(cut + 1);
                 if !end.is_empty() {
@@ -330,8 +338,7 @@ fn mixed_list(random: &mut Random, out: &mut Script) {
                 }
             }
             5 => {
-                let end = *ears[one].last().expect("an ear is not empty");
-                if one != other && ears[other][0] == end {
+                if one != other && ears[one].last().is_some_and(|end| ears[other].first() == Some(end)) {
                     let rest = ears[other][1..].to_vec();
                     ears[one].extend(rest);
                     ears.remove(other);

@@ -1,5 +1,6 @@
 //! The session of document 01: empty, open or closed, and the refusals from
-//! the state (19 to 22), which come before all others. Of document 02 it has Note 1, the whole list in one call.
+//! the state (19 to 22), which come before all others. Of document 02 it has Note 1, the whole list in one call, and
+//! Note 2: after the first ear an empty ear takes the leftover links.
 
 use crate::judge::Judge;
 use crate::network::{Network, Site};
@@ -39,7 +40,7 @@ impl Session {
         self.load(&Site { links, ..*names }, plant)
     }
 
-    /// Offering an ear gives the number of new switches.
+    /// Offering an ear gives the number of new switches; an empty one has none.
     pub fn ear(&mut self, ear: &[u16]) -> Result<usize, Refusal> {
         self.open()?.ear(ear)
     }
@@ -134,11 +135,18 @@ pub fn ears_of(list: &[u16]) -> impl Iterator<Item = Option<&[u16]>> {
 mod tests {
     use super::*;
     use crate::every::worked_site;
+    use crate::plan::{leave_short_ears, Plan, Shape, ShortEars};
+    use crate::random::Random;
+
+    fn loaded(site: &Site) -> Session {
+        let mut session = Session::Empty;
+        session.load(site, Plant::Nothing).unwrap();
+        session
+    }
 
     /// The worked network, open, after a list that is accepted.
     fn after(list: &[u16]) -> Session {
-        let mut session = Session::Empty;
-        session.load(&worked_site(), Plant::Nothing).unwrap();
+        let mut session = loaded(&worked_site());
         assert_eq!(session.ears(list).1, None);
         session
     }
@@ -173,12 +181,12 @@ mod tests {
     }
 
     #[test]
-    fn ears_of_no_number_and_counts_past_the_end_are_7_in_their_turn() {
+    fn no_number_before_the_first_ear_one_number_and_counts_past_the_end_are_7_in_their_turn() {
         for (list, accepted) in [
             (&[0][..], 0),
             (&[0, 3, 0, 2, 1], 0),
-            (&[3, 0, 2, 1, 0, 3, 2, 3, 1], 1),
             (&[3, 0, 2, 1, 1, 2, 3], 1),
+            (&[3, 0, 2, 1, 0, 1, 2], 2),
             (&[1], 0),
             (&[65535], 0),
             (&[4, 0, 2, 1], 0),
@@ -197,8 +205,69 @@ mod tests {
             for list in [&WHOLE[..], &[0], &[1], &[65535, 0, 2, 1]] {
                 assert_eq!(session.ears(list), stopped(0, number, 0), "{list:?}");
             }
+            assert_eq!(session.ear(&[]), refuse(number, 0));
             assert_eq!(session.ears(&[]), (0, None));
         }
         assert_eq!(after(&WHOLE).ears(&[]), (0, None));
+    }
+
+    #[test]
+    fn an_empty_ear_takes_the_leftover_links_whose_switches_are_born() {
+        // After 0 2 1 the links of 3 are left, and 3 is unborn: nothing to take, and link 2, from 0 to 3, is told.
+        let mut session = after(&FIRST);
+        assert_eq!(session.ear(&[]), Ok(0));
+        assert_eq!(session.close(), refuse(23, 2));
+        // After 2 3 1 the link from 0 to 3 alone is left.
+        assert_eq!(session.ear(&[2, 3, 1]), Ok(1));
+        assert_eq!(session.close(), refuse(23, 2));
+        assert_eq!(session.ear(&[]), Ok(0));
+        assert_eq!(session.ear(&[0, 3]), refuse(11, 0));
+        assert_eq!(session.ear(&[]), Ok(0));
+        assert_eq!(session.close(), Ok(()));
+    }
+
+    #[test]
+    fn an_empty_ear_leaves_links_with_an_unborn_switch() {
+        // Five switches, each two joined. After 0 2 3 1 the links 2 and 4 are taken, those of 4 from link 3 on are left.
+        let links = vec![(0, 1), (0, 2), (0, 3), (0, 4), (1, 2), (1, 3), (1, 4), (2, 3), (2, 4), (3, 4)];
+        let mut session = loaded(&Site { switches: 5, root: 0, first: 1, last: 4, links });
+        assert_eq!(session.ears(&[4, 0, 2, 3, 1, 0]), (2, None));
+        for (short, number, place) in [([0, 3], 11, 0), ([2, 1], 11, 0), ([0, 4], 13, 1), ([4, 1], 13, 0)] {
+            assert_eq!(session.ear(&short), refuse(number, place), "{short:?}");
+        }
+        assert_eq!(session.close(), refuse(23, 3));
+        assert_eq!(session.ears(&[3, 2, 4, 3, 0]), (2, None));
+        assert_eq!(session.close(), Ok(()));
+    }
+
+    #[test]
+    fn an_empty_ear_is_one_ear_of_a_list() {
+        let zeros = [0; 70_000];
+        assert_eq!(after(&FIRST).ears(&zeros), (70_000, None));
+        assert_eq!(after(&[]).ears(&zeros), stopped(0, 7, 0));
+        let mut session = after(&[]);
+        assert_eq!(session.ears(&[3, 0, 2, 1, 0, 3, 2, 3, 1, 0, 0, 2, 0, 3]), stopped(5, 11, 0));
+        assert_eq!(session.close(), Ok(()));
+    }
+
+    #[test]
+    fn long_ears_and_one_empty_ear_close_as_the_list_written_out() {
+        for index in 0..50 {
+            let mut random = Random::new(8, index);
+            let switches = random.within(4, 40);
+            let shape = Shape { short_ears: ShortEars::Anywhere, ..Shape::random(&mut random, switches) };
+            let Plan { site, ears } = Plan::of(&shape, &mut random);
+            let mut long = ears.clone();
+            leave_short_ears(&mut long);
+            let [one, other] = [ears, long].map(|ears| {
+                let mut session = loaded(&site);
+                assert_eq!(session.ears(&list_of(&ears)), (ears.len(), None));
+                session.close().unwrap();
+                session
+            });
+            for (s, tree) in (0..site.switches).flat_map(|s| [(s, 1), (s, 2), (s, 3)]) {
+                assert_eq!(one.walk(s, tree), other.walk(s, tree), "{site:?}");
+            }
+        }
     }
 }

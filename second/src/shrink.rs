@@ -2,7 +2,7 @@
 
 use std::time::{Duration, Instant};
 
-use crate::lines::{read_form, Form};
+use crate::lines::{ear_line, read_form, Form};
 
 /// A line with more numbers than this is not changed number by number.
 const MANY_NUMBERS: usize = 64;
@@ -202,10 +202,7 @@ fn joined(lines: &[Vec<u8>], kept: u16, gone: u16) -> Vec<Vec<u8>> {
             Some(Form::Ear(ear)) if ear.len() > 1 => {
                 let mut ear: Vec<u16> = ear.into_iter().map(to).collect();
                 ear.dedup();
-                let write = |ear: &[u16]| {
-                    let numbers: Vec<String> = ear.iter().map(u16::to_string).collect();
-                    format!("(ear {})", numbers.join(" ")).into_bytes()
-                };
+                let write = |ear: &[u16]| ear_line(ear).into_bytes();
                 let back: Vec<u16> = ear.iter().rev().copied().collect();
                 if ear.len() == 1 || smaller.contains(&write(&ear)) || smaller.contains(&write(&back)) {
                     continue;

@@ -37,17 +37,22 @@ mod with_the_archive {
     fn nothing_is_found_without_a_fault() {
         let counts = run(1, 100_000, Plant::Nothing, Fault::Nothing).unwrap_or_else(|found| panic!("{found:?}"));
         assert_eq!(counts.calls, 100_000);
-        assert_eq!(counts.missing(), []);
+        assert_eq!(counts.missing(), [""; 0]);
         assert!(counts.granted.keys().eq(&["clear", "close", "ear", "ears", "load", "parent", "walk"]), "{counts:?}");
         assert!(counts.unknown_granted.keys().eq(&["clear", "close", "ear", "ears", "parent", "walk"]), "{counts:?}");
+        // Memory that reads as empty is the second program's empty session.
+        assert_eq!(counts.unknown_empty_ears.missing(), ["refused 19"]);
         assert!(counts.stopped > 0 && counts.wrong_lengths > 0, "{counts:?}");
     }
 
     #[test]
     fn each_fault_of_the_second_program_is_found_in_few_steps() {
-        for (plant, kind) in
-            [(Plant::WrongPlace, Kind::Answer), (Plant::WrongParent, Kind::Field), (Plant::WrongList, Kind::Answer)]
-        {
+        for (plant, kind) in [
+            (Plant::WrongPlace, Kind::Answer),
+            (Plant::WrongParent, Kind::Field),
+            (Plant::WrongList, Kind::Answer),
+            (Plant::WrongLinks, Kind::Answer),
+        ] {
             let Difference { finding, steps, .. } = difference(plant, Fault::Nothing);
             assert_eq!(finding.kind, kind, "{plant:?}: {finding:?}");
             assert!(steps.len() <= 30, "{plant:?}: {steps:?}");
@@ -82,7 +87,7 @@ mod with_the_archive {
             (&["1", "20000", "--plant", "1"], 1),
             (&["1"], 2),
             (&["1", "many"], 2),
-            (&["1", "1000", "--plant", "4"], 2),
+            (&["1", "1000", "--plant", "5"], 2),
         ] {
             let ended = second_calls(arguments);
             assert_eq!(ended.status.code(), Some(status), "{arguments:?}");

@@ -63,7 +63,7 @@ fn cards_a_to_h() {
         ("(ear 0 3)", "(refused 13 1)"),
         ("(ear 2 3 2)", "(refused 9 2)"),
         ("(ear 1 0)", "(refused 11 0)"),
-        ("(ear)", "(refused 7 0)"),
+        ("(ear)", "(new 0)"),
         ("(ear 0)", "(refused 7 0)"),
     ] {
         assert_eq!(after_opening(&format!("(ear 0 2 1)\n{ear}\n")), answer, "{ear}");
@@ -103,6 +103,19 @@ fn cards_k_and_l() {
     let Session::Closed(tables) = session else { panic!("the session is closed") };
     assert_eq!(tables.order.to_list(), [0, 4, 5, 2, 3, 1]);
     assert!(brute::is_mondschein(&site, &ears));
+}
+
+/// Long ears and one empty ear close with the replies of the same plan written out.
+#[test]
+fn plans_with_long_ears_only() {
+    for (written_out, long_ears) in [("card-k", "long-ears"), ("site-1024", "long-ears-1024")] {
+        let [one, other] = [written_out, long_ears].map(|name| {
+            let path = format!("{}/../examples/{name}.plan", env!("CARGO_MANIFEST_DIR"));
+            let replies = answers(&std::fs::read_to_string(path).unwrap());
+            replies.split_once("(closed)\n").expect("the plan closes").1.to_string()
+        });
+        assert!(one == other && one.starts_with("(walk"), "{long_ears}");
+    }
 }
 
 #[test]
@@ -190,7 +203,7 @@ fn every_list_of_small_networks() {
             let mut session = Session::Empty;
             session.load(&site, Plant::Nothing).unwrap();
             let judged = list.iter().all(|ear| session.ear(ear).is_ok()) && session.close().is_ok();
-            assert_eq!(judged, brute::is_mondschein(&site, list), "{list:?}");
+            assert_eq!(judged, brute::is_mondschein(&site, &brute::written_out(&site, list)), "{list:?}");
             lists += 1;
             taken += usize::from(judged);
         });

@@ -1,5 +1,5 @@
 //! `second-calls SEED COUNT` makes COUNT random calls of the archive and compares them with the second program.
-//! `--plant N` (1 to 3) puts a fault into the second program on purpose.
+//! `--plant N` (1 to 4) puts a fault into the second program on purpose.
 
 use std::process::ExitCode;
 
@@ -45,7 +45,7 @@ mod with_archive {
         println!("{}", summary(&counts));
         let missing = counts.missing();
         if !missing.is_empty() {
-            println!("refusals that were never seen: {missing:?}");
+            println!("never seen: {}", missing.join(", "));
             return ExitCode::FAILURE;
         }
         ExitCode::SUCCESS

@@ -1,7 +1,7 @@
 //! `second-compare PATH SEED COUNT` compares the program at PATH with the
 //! second one on generated scripts; `second-compare PATH FILE..` on files;
 //! `second-compare PATH every` on every list of ears of small networks.
-//! `--plant N` (1 to 3) puts a fault into the second program on purpose.
+//! `--plant N` (1 to 4) puts a fault into the second program on purpose.
 //! With `-` for PATH the second program, without a fault, stands for the first.
 
 use std::io::Write;
@@ -15,6 +15,9 @@ use second_reading::lines::LINES;
 use second_reading::network::Site;
 use second_reading::script::script;
 use second_reading::Plant;
+
+/// With so many scripts or more, an empty ear has to be seen with every answer that it can have.
+const ENOUGH: usize = 300;
 
 const USAGE: &str = "second-compare PATH SEED COUNT [--plant N]\nsecond-compare PATH FILE.. [--plant N]\nsecond-compare PATH every [--plant N]";
 
@@ -36,43 +39,59 @@ fn main() -> ExitCode {
         path => Program::File(PathBuf::from(path)),
     };
     let second = Program::Second(plant);
-    let mut counts = Counts::default();
-    if arguments[1..] == ["every"] {
-        for (name, script) in every_script() {
-            if let Err(finding) = examine(&first, &second, &script, &mut counts) {
-                return report(&first, &second, &name, &script, &finding);
-            }
-        }
-        println!("{}", summary(&counts));
-        return ExitCode::SUCCESS;
-    }
     let numbers: Vec<u64> = arguments[1..].iter().map_while(|text| text.parse().ok()).collect();
-    if numbers.len() == 2 && arguments.len() == 3 {
-        for index in 0..numbers[1] {
-            let script = script(numbers[0], index);
-            if let Err(finding) = examine(&first, &second, &script, &mut counts) {
-                println!("script {index} of seed {}: {:?}: {}", numbers[0], finding.kind, finding.what);
-                let (index, script) = shortest(&first, &second, numbers[0], index, script, finding.kind);
-                let name = format!("script {index} of seed {}, the shortest that shows it", numbers[0]);
-                return report(&first, &second, &name, &script, &finding);
-            }
-        }
-    } else {
-        for file in &arguments[1..] {
-            let script = match std::fs::read(file) {
-                Ok(script) => script,
-                Err(error) => {
-                    eprintln!("second-compare: {file}: {error}");
-                    return ExitCode::FAILURE;
-                }
-            };
-            if let Err(finding) = examine(&first, &second, &script, &mut counts) {
-                return report(&first, &second, file, &script, &finding);
-            }
+    let counts = match (&arguments[1..], &numbers[..]) {
+        ([word], _) if word == "every" => compare_every(&first, &second),
+        ([_, _], &[seed, count]) => compare_generated(&first, &second, seed, count),
+        (files, _) => compare_files(&first, &second, files),
+    };
+    let Ok(counts) = counts else { return ExitCode::FAILURE };
+    println!("{}", summary(&counts));
+    let missing = counts.empty_ears.missing();
+    if numbers.len() == 2 && counts.scripts >= ENOUGH && !missing.is_empty() {
+        println!("empty ears that were never seen: {missing:?}");
+        return ExitCode::FAILURE;
+    }
+    ExitCode::SUCCESS
+}
+
+/// A difference, or a file that cannot be read, was told.
+struct Told;
+
+fn compare_every(first: &Program, second: &Program) -> Result<Counts, Told> {
+    let mut counts = Counts::default();
+    for (name, script) in every_script() {
+        examine(first, second, &script, &mut counts)
+            .map_err(|finding| report(first, second, &name, &script, &finding))?;
+    }
+    Ok(counts)
+}
+
+fn compare_generated(first: &Program, second: &Program, seed: u64, count: u64) -> Result<Counts, Told> {
+    let mut counts = Counts::default();
+    for index in 0..count {
+        let script = script(seed, index);
+        if let Err(finding) = examine(first, second, &script, &mut counts) {
+            println!("script {index} of seed {seed}: {:?}: {}", finding.kind, finding.what);
+            let (index, script) = shortest(first, second, seed, index, script, finding.kind);
+            let name = format!("script {index} of seed {seed}, the shortest that shows it");
+            return Err(report(first, second, &name, &script, &finding));
         }
     }
-    println!("{}", summary(&counts));
-    ExitCode::SUCCESS
+    Ok(counts)
+}
+
+fn compare_files(first: &Program, second: &Program, files: &[String]) -> Result<Counts, Told> {
+    let mut counts = Counts::default();
+    for file in files {
+        let script = std::fs::read(file).map_err(|error| {
+            eprintln!("second-compare: {file}: {error}");
+            Told
+        })?;
+        examine(first, second, &script, &mut counts)
+            .map_err(|finding| report(first, second, file, &script, &finding))?;
+    }
+    Ok(counts)
 }
 
 /// Every list of the worked network, and of the wheel with each choice of
@@ -126,7 +145,7 @@ fn usage() -> ExitCode {
     ExitCode::FAILURE
 }
 
-fn report(first: &Program, second: &Program, name: &str, script: &[u8], finding: &Finding) -> ExitCode {
+fn report(first: &Program, second: &Program, name: &str, script: &[u8], finding: &Finding) -> Told {
     println!("{name}: {:?}: {}", finding.kind, finding.what);
     let (small, finding) = make_small(first, second, script, finding.kind);
     println!("smallest script found, {} lines: {}", small.split(|&b| b == b'\n').count() - 1, finding.what);
@@ -138,5 +157,5 @@ fn report(first: &Program, second: &Program, name: &str, script: &[u8], finding:
             let _ = writeln!(out, "(no line feed)");
         }
     }
-    ExitCode::FAILURE
+    Told
 }

@@ -52,6 +52,10 @@ impl Call {
         Call::Load(Site { links: Vec::new(), ..*site }, numbers)
     }
 
+    pub fn is_empty_ear(&self) -> bool {
+        matches!(self, Call::Ear(ear) if ear.is_empty())
+    }
+
     /// The numbers that the call lends for reading.
     pub fn lent(&self) -> &[u16] {
         match self {

@@ -3,7 +3,7 @@
 
 use super::arguments::{any_numbers, mix_plan, path, query, through, wild_query};
 use super::call::Call;
-use super::lists::{any_list, damaged_list};
+use super::lists::{any_list, damaged_list, empty_ears};
 use crate::archive::{self, CLOSED, OPEN};
 use crate::damage::{damage_site, damaged_ear, last_by_root, tried_ear, tried_in_vain};
 use crate::judge::Judge;
@@ -100,7 +100,7 @@ impl Draw {
         left[..count].to_vec()
     }
 
-    /// An ear that may be taken where the plan is not followed: a link that is left, or a path.
+    /// An ear that may be taken where the plan is not followed: a link that is left, all of them, or a path.
     fn tried(&self, random: &mut Random, judge: &Judge) -> Call {
         let network = &judge.network;
         let all_born = (0..network.switches as u16).all(|s| judge.is_born(s));
@@ -111,6 +111,7 @@ impl Draw {
         let switches = (0..network.switches).map(|k| ((from + k) % network.switches) as u16);
         let mut links = switches.flat_map(|s| network.neighbours(s).iter().map(move |other| (s, other)));
         match links.find(|(_, other)| !judge.is_used(other.link as usize)) {
+            Some(_) if random.chance(20) => Call::Ear(Vec::new()),
             Some((s, other)) => Call::Ear(vec![s, other.switch]),
             None => Call::Close,
         }
@@ -127,6 +128,8 @@ impl Draw {
                 Call::Clear
             }
             5 | 6 => Call::Ears(self.stray_list(random, session)),
+            7 if random.chance(20) => Call::Ear(Vec::new()),
+            7 if random.chance(5) => Call::Ears(empty_ears(random)),
             _ => Call::Ear(self.stray_ear(random, session)),
         }
     }
@@ -209,7 +212,8 @@ impl Draw {
             2 if random.chance(20) => Call::Clear,
             2..=4 => wild_query(random, memory),
             5..=7 => Call::Close,
-            8..=10 => Call::Ear(self.any_ear(random)),
+            8 => Call::Ear(Vec::new()),
+            9 | 10 => Call::Ear(self.any_ear(random)),
             11..=14 => Call::Ear(path(random, memory)),
             15..=21 => Call::Ear(self.moved_ears(memory, 1).concat()),
             _ => Call::Ears(self.wild_list(random, memory)),
@@ -222,6 +226,9 @@ impl Draw {
         let mut ears = self.moved_ears(memory, count);
         if random.chance(30) {
             ears[random.below(count)] = path(random, memory);
+        }
+        if random.chance(30) {
+            ears.insert(random.below(count), Vec::new());
         }
         any_list(random, ears)
     }

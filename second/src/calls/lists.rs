@@ -5,11 +5,12 @@ use super::arguments::any_numbers;
 use crate::random::Random;
 use crate::session::list_of;
 
-/// A list that asks nobody: of no number, of any numbers, of one ear with its count past the end, or of these ears,
-/// damaged or not.
+/// A list that asks nobody: of no number, of empty ears, of any numbers, of one ear with its count past the end, or of
+/// these ears, damaged or not.
 pub fn any_list(random: &mut Random, ears: Vec<Vec<u16>>) -> Vec<u16> {
     match random.below(20) {
-        0..=2 => Vec::new(),
+        0 | 1 => Vec::new(),
+        2 => empty_ears(random),
         3 => any_numbers(random, 30),
         4 if random.chance(10) => any_numbers(random, 70_000),
         4..=6 => {
@@ -19,6 +20,12 @@ pub fn any_list(random: &mut Random, ears: Vec<Vec<u16>>) -> Vec<u16> {
         7..=10 => list_of(&ears),
         _ => damaged_list(random, ears),
     }
+}
+
+/// A list of empty ears, very rarely of more than 65,536.
+pub fn empty_ears(random: &mut Random) -> Vec<u16> {
+    let count = if random.chance(1) { 70_000 } else { random.within(1, 4) };
+    vec![0; count]
 }
 
 /// The list of these ears with one of them dropped, doubled, exchanged or left without a number, or with other damage.

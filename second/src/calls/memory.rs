@@ -13,6 +13,7 @@ pub fn may_answer(call: &Call, session: &Session, answer: &Answer) -> bool {
     let settled = match call {
         Call::Clear => Ok(Vec::new()),
         Call::Load(..) => refuse(20, 0),
+        Call::Ear(_) if is_open && call.is_empty_ear() => empty_ear(session),
         Call::Ear(ear) if is_open => return may_judge(ear, &answer.values),
         Call::Ears(list) => return *answer == one_by_one(&mut session.clone(), list),
         Call::Close if is_open => close(session),
@@ -22,6 +23,27 @@ pub fn may_answer(call: &Call, session: &Session, answer: &Answer) -> bool {
         Call::Walk { switch, tree, room } => walk(session, *switch, *tree, *room),
     };
     *answer == Answer { accepted: 0, values: settled }
+}
+
+fn empty_ear(session: &Session) -> Values {
+    match session.born {
+        0 => refuse(7, 0),
+        _ => Ok(vec![0]),
+    }
+}
+
+/// How many links a granted empty ear takes, and the session that it leaves: nothing else of it changes.
+pub fn with_leftover_taken(session: &Session) -> (usize, Session) {
+    let (mut taken, mut after) = (0, session.clone());
+    let is_born = |switch: u16| entry(&session.births, switch) != 0;
+    let links = session.links.chunks_exact(2).take(session.m.into());
+    for (two, used) in links.zip(&mut after.used) {
+        if *used == 0 && is_born(two[0]) && is_born(two[1]) {
+            *used = 1;
+            taken += 1;
+        }
+    }
+    (taken, after)
 }
 
 fn may_judge(ear: &[u16], values: &Values) -> bool {
@@ -84,6 +106,7 @@ pub fn leaves(call: &Call, before: &Session, after: &Session) -> bool {
     match call {
         Call::Clear => *after == Session::EMPTY,
         Call::Load(..) => after.stage == OPEN,
+        Call::Ear(_) if call.is_empty_ear() => *after == with_leftover_taken(before).1,
         Call::Ear(_) => same_network && after.stage == OPEN && before.tree3 == after.tree3,
         Call::Ears(list) => {
             let mut offered = before.clone();

@@ -4,19 +4,21 @@
 use std::collections::BTreeMap;
 use std::time::{Duration, Instant};
 
-use super::call::Call;
+use super::call::{Answer, Call};
 use super::draw::Draw;
 use super::lengths::wrong_lengths;
 use super::side::Fault;
 use super::trial::{Done, Finding, Step, Trial};
 use crate::compare::refusals_told;
+use crate::empty_ears::EmptyEars;
 use crate::random::Random;
+use crate::session::ears_of;
 use crate::Plant;
 
 /// A walk on memory that no calls made may go on for 65,535 switches, and it calls itself for each.
 const STACK: usize = 64 << 20;
 
-/// With so many calls or more, every refusal has to be seen.
+/// With so many calls or more, every refusal has to be seen, and every answer to an empty ear.
 const ENOUGH: usize = 100_000;
 
 /// What was seen.
@@ -28,13 +30,16 @@ pub struct Counts {
     pub compared: usize,
     pub granted: BTreeMap<&'static str, usize>,
     pub refusals: BTreeMap<u16, BTreeMap<u16, usize>>,
-    /// Lists that were refused at an ear behind accepted ones.
+    pub empty_ears: EmptyEars,
+    /// Lists that were refused at an ear behind accepted ones, and lists with an empty ear accepted.
     pub stopped: usize,
+    pub lists_with_empty: usize,
     /// Sessions overwritten, and the calls on them that the second program does not know.
     pub overwritten: usize,
     pub unknown: usize,
     pub unknown_granted: BTreeMap<&'static str, usize>,
     pub unknown_refusals: BTreeMap<u16, BTreeMap<u16, usize>>,
+    pub unknown_empty_ears: EmptyEars,
     /// Calls with arrays of other lengths than the struct's.
     pub wrong_lengths: usize,
 }
@@ -187,20 +192,12 @@ fn name(call: &Call) -> &'static str {
 impl Counts {
     fn add(&mut self, step: &Step, done: &Done) {
         match (step, done) {
-            (Step::Call(call), Done::Answered { answer, known }) => {
+            (Step::Call(call), Done::Answered { answer, known, leftover }) => {
                 self.calls += 1;
-                let (all, granted, refusals) = match known {
-                    true => (&mut self.compared, &mut self.granted, &mut self.refusals),
-                    false => (&mut self.unknown, &mut self.unknown_granted, &mut self.unknown_refusals),
-                };
-                *all += 1;
-                self.stopped += usize::from(answer.accepted > 0 && answer.values.is_err());
-                match &answer.values {
-                    Ok(_) => *granted.entry(name(call)).or_default() += 1,
-                    Err(refusal) => {
-                        let places = refusals.entry(refusal.number.into()).or_default();
-                        *places.entry(refusal.place as u16).or_default() += 1;
-                    }
+                self.add_answer(call, answer, *known);
+                if call.is_empty_ear() {
+                    let ears = if *known { &mut self.empty_ears } else { &mut self.unknown_empty_ears };
+                    ears.add(answer.values.as_ref().map(|_| *leftover).map_err(|refusal| refusal.number.into()));
                 }
             }
             (_, Done::Lengths) => {
@@ -211,10 +208,35 @@ impl Counts {
         }
     }
 
-    /// The refusals that were never seen although there were calls enough.
-    pub fn missing(&self) -> Vec<u16> {
-        let seen = |number: &u16| self.calls < ENOUGH || self.refusals.contains_key(number);
-        (1..=23).filter(|number| !seen(number)).collect()
+    fn add_answer(&mut self, call: &Call, answer: &Answer, known: bool) {
+        let (all, granted, refusals) = match known {
+            true => (&mut self.compared, &mut self.granted, &mut self.refusals),
+            false => (&mut self.unknown, &mut self.unknown_granted, &mut self.unknown_refusals),
+        };
+        *all += 1;
+        match &answer.values {
+            Ok(_) => *granted.entry(name(call)).or_default() += 1,
+            Err(refusal) => {
+                let places = refusals.entry(refusal.number.into()).or_default();
+                *places.entry(refusal.place as u16).or_default() += 1;
+            }
+        }
+        if let Call::Ears(list) = call {
+            self.stopped += usize::from(answer.accepted > 0 && answer.values.is_err());
+            let has_empty = ears_of(list).take(answer.accepted).flatten().any(<[u16]>::is_empty);
+            self.lists_with_empty += usize::from(has_empty);
+        }
+    }
+
+    /// The refusals, and the empty ears, that were never seen although there were calls enough.
+    pub fn missing(&self) -> Vec<String> {
+        if self.calls < ENOUGH {
+            return Vec::new();
+        }
+        let refusals = (1..=23).filter(|number| !self.refusals.contains_key(number)).map(|number| number.to_string());
+        let ears = self.empty_ears.missing().into_iter().map(|answer| format!("an empty ear {answer}"));
+        let listed = (self.lists_with_empty == 0).then(|| "an empty ear in a list".to_string());
+        refusals.chain(ears).chain(listed).collect()
     }
 }
 
@@ -226,18 +248,22 @@ pub fn summary(counts: &Counts) -> String {
     };
     format!(
         "equal: {} calls, {} sessions; {} compared with the second program, granted {}, \
-         refusals (number:times/places) {}; {} overwritten, {} calls on them, granted {}, refusals {}; \
-         {} lists stopped behind accepted ears; {} calls with arrays of wrong lengths",
+         refusals (number:times/places) {}, empty ears: {}; \
+         {} overwritten, {} calls on them, granted {}, refusals {}, empty ears: {}; \
+         {} lists stopped behind accepted ears, {} with an empty ear accepted; {} calls with arrays of wrong lengths",
         counts.calls,
         counts.sessions,
         counts.compared,
         told(&counts.granted),
         refusals_told(&counts.refusals),
+        counts.empty_ears,
         counts.overwritten,
         counts.unknown,
         told(&counts.unknown_granted),
         refusals_told(&counts.unknown_refusals),
+        counts.unknown_empty_ears,
         counts.stopped,
+        counts.lists_with_empty,
         counts.wrong_lengths,
     )
 }

@@ -7,7 +7,7 @@ use super::call::{Answer, Call};
 use super::known::wrong_field;
 use super::lengths::make_wrong;
 use super::lent::{Apart, Lengths, Memory, Whole, RIGHT};
-use super::memory::{leaves, may_answer};
+use super::memory::{leaves, may_answer, with_leftover_taken};
 use super::overwrite::overwrite;
 use super::side::{Fault, Side};
 use crate::archive::{self, CLOSED, OPEN};
@@ -58,7 +58,12 @@ impl Finding {
 
 /// What a step did, for the counts.
 pub enum Done {
-    Answered { answer: Answer, known: bool },
+    /// `leftover` is the count of links that an empty ear takes where it is granted.
+    Answered {
+        answer: Answer,
+        known: bool,
+        leftover: usize,
+    },
     Overwritten,
     Lengths,
 }
@@ -101,7 +106,8 @@ impl Trial {
         match step {
             Step::Call(call) => {
                 let known = self.second.is_some();
-                Ok(Done::Answered { answer: self.call(call)?, known })
+                let leftover = if call.is_empty_ear() { with_leftover_taken(&self.before).0 } else { 0 };
+                Ok(Done::Answered { answer: self.call(call)?, known, leftover })
             }
             Step::Overwrite(seed) => {
                 self.overwrite(*seed);
