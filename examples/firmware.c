@@ -8,10 +8,10 @@
 enum { TREES = 3 };
 
 /* The plan: 4 switches with root 0, first 1 and last 3; an ear that a planner got wrong; and the list, each ear preceded by its count of
- * switches. */
+ * switches: two long ears, and an empty one, which takes the links that they leave. */
 static const uint16_t links[] = { 0, 1, 0, 2, 0, 3, 1, 2, 1, 3, 2, 3 };
 static const uint16_t wrong_ear[] = { 0, 2, 3, 1 };
-static const uint16_t list[] = { 3, 0, 2, 1, 3, 2, 3, 1, 2, 0, 3 };
+static const uint16_t list[] = { 3, 0, 2, 1, 3, 2, 3, 1, 0 };
 
 #define COUNT(array) (sizeof(array) / sizeof((array)[0]))
 

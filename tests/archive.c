@@ -29,6 +29,8 @@ typedef char threeways_refusal_has_4_bytes[sizeof(struct threeways_refusal) == 4
 static const uint16_t links[] = { 0, 1, 0, 2, 0, 3, 1, 2, 1, 3, 2, 3 };
 static const uint16_t ears[3][3] = { { 0, 2, 1 }, { 2, 3, 1 }, { 0, 3 } };
 static const uint16_t list[] = { 3, 0, 2, 1, 3, 2, 3, 1, 2, 0, 3 };   /* these ears, each preceded by its count */
+static const uint16_t longs[] = { 3, 0, 2, 1, 3, 2, 3, 1, 0 };        /* the long ones of them, and an empty ear */
+static const uint16_t empty[70000];                                   /* as many empty ears */
 static const uint16_t torn[] = { 4, 0, 2, 1 };                        /* the first ear, with a count past the end */
 static struct threeways_session session, other, zeros;
 
@@ -71,6 +73,7 @@ static void empty_session(void)
     memset(&session, 0xa5, sizeof session);
     hold(is(threeways_ear(&session, ears[0], 3, &count), 19, 0) && count == 9, "any other stage is empty: ear is 19 at 0");
     other = session;
+    hold(is(threeways_ear(&session, NULL, 0, &count), 19, 0) && count == 9, "an ear of no numbers at NULL is then 19 at 0");
     hold(is(offer(&session, list, 11), 19, 0) && accepted == 0, "a list is then 19 at 0, with no ear accepted");
     hold(is(offer(&session, NULL, 0), 0, 0) && accepted == 0, "a list of no numbers at NULL succeeds, with no ear accepted");
     hold(same(&session, &other), "a list with no ear accepted leaves any memory");
@@ -84,7 +87,8 @@ static void empty_session(void)
 static void open_session(void)
 {
     other = session;
-    hold(is(threeways_ear(&session, NULL, 0, &count), 7, 0), "an ear of no numbers at NULL is 7 at 0");
+    hold(is(threeways_ear(&session, NULL, 0, &count), 7, 0), "before the first ear one of no numbers at NULL is 7 at 0");
+    hold(is(offer(&session, empty, 70000), 7, 0) && accepted == 0, "a list of empty ears is then 7 at 0, with no ear accepted");
     hold(is(threeways_ear(&session, ears[1], 3, &count), 12, 0), "a wrong first ear is 12 at 0");
     hold(is(offer(&session, NULL, 0), 0, 0) && accepted == 0, "a list of no numbers at NULL succeeds on an open session");
     hold(is(offer(&session, torn, 4), 7, 0) && accepted == 0, "a count past the end of the list is 7 at 0");
@@ -118,10 +122,33 @@ static void whole_list(void)
     hold(is(threeways_close(s), 0, 0) && same(s, &done), "close succeeds, and the fields are the same");
 }
 
+/* The long ears, and empty ones, which take the links that are left. */
+static void leftover_links(void)
+{
+    static struct threeways_session before;
+    struct threeways_session *s = &session;
+    *s = loaded;
+    hold(is(offer(s, longs, 4), 0, 0) && accepted == 1, "the first ear succeeds");
+    before = *s;
+    hold(is(threeways_ear(s, NULL, 0, &count), 0, 0) && count == 0, "after it an ear of no numbers at NULL succeeds, with no new switch");
+    hold(is(offer(s, empty, 70000), 0, 0) && accepted == 70000, "a list of empty ears succeeds, and each is an ear accepted");
+    hold(is(threeways_ear(s, ears[0], 1, &count), 7, 0), "an ear of one number is 7 at 0");
+    hold(same(s, &before), "links with an unborn switch are left, and all else");
+    hold(is(threeways_ear(s, ears[1], 3, &count), 0, 0) && is(threeways_close(s), 23, 2), "after the last long ear close is 23 at the link left");
+    before = *s;
+    before.used[2] = 1;
+    hold(is(threeways_ear(s, empty, 0, &count), 0, 0) && same(s, &before), "an empty ear takes that link, and nothing else changes");
+    hold(is(threeways_close(s), 0, 0) && same(s, &done), "close succeeds, and the fields are those of the list written out");
+    *s = loaded;
+    hold(is(offer(s, longs, 9), 0, 0) && accepted == 3, "long ears and an empty one are a list of three ears");
+    hold(is(threeways_close(s), 0, 0) && same(s, &done), "close succeeds, and the fields are the same again");
+}
+
 static void closed_session(void)
 {
     const struct threeways_session *s = &other;
     count = 9;
+    hold(is(threeways_ear(&other, NULL, 0, &count), 22, 0) && count == 9, "an ear of no numbers on a closed session is 22 at 0");
     hold(is(offer(&other, torn, 4), 22, 0) && accepted == 0, "a list on a closed session is 22 at 0, with no ear accepted");
     hold(is(offer(&other, NULL, 0), 0, 0) && accepted == 0, "a list of no numbers at NULL succeeds on a closed session");
     hold(is(threeways_parent(s, 4, 1, out), 17, 0) && out[0] == 9, "parent of a switch that is not there is 17 at 0");
@@ -140,6 +167,7 @@ int main(void)
     empty_session();
     open_session();
     whole_list();
+    leftover_links();
     closed_session();
     return failed;
 }
