@@ -1,12 +1,12 @@
 // One call or walk that a line asks of the session, in place, with its reply and what is known after both.
 // The session's arrays are lent; a reply is written at the start of a slice.
+use closing::Close;
 use collect::Kept;
 use collect::Reader;
 use in_place::Session;
 use in_place::State;
 use judge::Ear;
 use network::Load;
-use tables::Close;
 use walks::Walk;
 ghost use mathlib.Core.Path.{_≡_};
 ghost use Prim.Native.Nat.{_≤_};
@@ -14,7 +14,7 @@ ghost use lib.ListN.{length, take};
 ghost use Rattle.mondschein.specs.Network.{at};
 ghost use Rattle.network.specs.Load.{loadAnswer};
 ghost use Rattle.judge.specs.Ear.{earAnswer};
-ghost use Rattle.tables.specs.Tables.{closeAnswer};
+ghost use Rattle.closing.specs.Closing.{closeAnswer};
 ghost use Rattle.walks.specs.Walks.{walkAnswer};
 ghost use Rattle.in_place.specs.Session.{emptySession};
 ghost use Rattle.in_place.specs.InPlace.{sessionIn, SizedAs, IndexedIn};

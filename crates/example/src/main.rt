@@ -1,10 +1,10 @@
 // The worked example of document 01, its cards i and l and the cards below them, and lists of ears, through the session's calls.
 // Each answer is written as the lines of document 01 write it, that of parent as (parent switch tree entry), that of a list as (accepted ears).
+use closing::Close;
 use judge::Ear;
 use network::Load;
 use offering::EarList;
 use session::Session;
-use tables::Close;
 use walks::Parent;
 use walks::Walk;
 

@@ -5,25 +5,25 @@ use mathlib.Core.Bool.{Bool, true, false, cond}
 use mathlib.Core.List.{List, [], _∷_}
 use Prim.Native.Nat.{ℕ, min, _*_, _≤_}
 use native.Mathlib.Omega.{arith}
-use lib.Dec.{eqb, ltb}
+use lib.Dec.{eqb}
 use lib.ListN.{length, take, length-take}
-use borrow.Author.Tests.{ltb-false}
 use Rattle.mondschein.specs.Network.{Network, size, former, latter, joins, joined, linkOf}
-use Rattle.mondschein.specs.Judge.{Answer, given, refused, wrongLength, verdict, closing}
+use Rattle.mondschein.specs.Judge.{Answer, given, refused, verdict, closing}
 use Rattle.mondschein.specs.Order.{parent3By}
 use Rattle.mondschein.specs.Outcome.{granted, settle}
 use Rattle.mondschein.specs.EmptyEar.{leftOver, isEmpty, entering}
-use Rattle.mondschein.proofs.Logic.{or-false}
-use Rattle.mondschein.proofs.Checks.{check-given}
+use Rattle.mondschein.proofs.Passed.{given-passed}
 use Rattle.network.specs.Load.{networkOf, tableOf}
 use Rattle.network.specs.Index.{Indexed}
 use Rattle.rows.specs.Rows.{marked}
 use Rattle.rows.proofs.Prefixes.{least-take}
-use Rattle.tables.specs.Tables.{tablesOf, usedAfter, afterEar, usedAfterEmpty, afterOffer, tree3Of}
+use Rattle.left_over.specs.LeftOver.{usedAfterEmpty}
+use Rattle.closing.specs.Tree3.{tree3Of}
+use Rattle.tables.specs.Tables.{tablesOf, usedAfter, afterEar}
 use Rattle.in_place.specs.declared.Stage.{Stage}
 use Rattle.in_place.specs.declared.Stage.the-variants.{Empty, Open, Closed}
 use Rattle.in_place.specs.declared.Session.{Session}
-use Rattle.in_place.specs.Session.{networkIn, tablesIn, withTables, byStage}
+use Rattle.in_place.specs.Session.{networkIn, tablesIn, afterOffer, withTables, byStage}
 
 -- by the answer
 module _ (s next : Session) {a : Answer} where
@@ -112,11 +112,7 @@ module _ (s : Session) (e : List ℕ) where
 
 -- an ear that is accepted has two numbers or more
 pub accepted-two : (net : Network) (isBorn isUsed : ℕ → Bool) (b : Bool) (e vs : List ℕ) → verdict net isBorn isUsed b e ≡ given vs → 2 ≤ length e
-unfolding verdict wrongLength
-accepted-two net isBorn isUsed b e vs q =
-    let (clear, _) = check-given 7 1 _ _ vs q in
-    let (short, _) = or-false (ltb (length e) (cond b 3 2)) _ (clear 0 (omega arith)) in
-    omega (arith, ltb-false (length e) (cond b 3 2) short, two b)
+accepted-two net isBorn isUsed b e vs q = omega (arith, given-passed net isBorn isUsed b e vs q .atLeast, two b)
   where
     two : (c : Bool) → 2 ≤ cond c 3 2
     two true = omega arith

@@ -13,7 +13,9 @@ use Rattle.network.specs.Load.{tableOf, loadAnswer}
 use Rattle.network.specs.Index.{Indexed}
 use Rattle.rows.specs.Rows.{marked}
 use Rattle.judge.specs.Ear.{earAnswer}
-use Rattle.tables.specs.Tables.{tablesOf, afterEar, afterOffer, tree3Of, closeAnswer}
+use Rattle.closing.specs.Closing.{closeAnswer}
+use Rattle.closing.specs.Tree3.{tree3Of}
+use Rattle.tables.specs.Tables.{tablesOf, afterEar}
 use Rattle.walks.specs.declared.Parent.{Parent}
 use Rattle.walks.specs.declared.Walk.{Walk}
 use Rattle.walks.specs.Walks.{parentAnswer, walkAnswer}
@@ -23,7 +25,7 @@ use Rattle.in_place.specs.declared.State.{State}
 use Rattle.in_place.specs.declared.LoadedIn.{LoadedIn}
 use Rattle.in_place.specs.declared.OfferedIn.{OfferedIn}
 use Rattle.in_place.specs.declared.ClosedIn.{ClosedIn}
-use Rattle.in_place.specs.Session.{sessionOf, networkIn, tablesIn, withTables, closedWith, loadedBy, offeredBy, closedBy}
+use Rattle.in_place.specs.Session.{sessionOf, networkIn, tablesIn, afterOffer, withTables, closedWith, loadedBy, offeredBy, closedBy}
 use Rattle.in_place.specs.Queries.{parentBy, walkedBy}
 
 -- the session with this state and these arrays

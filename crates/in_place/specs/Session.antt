@@ -1,5 +1,6 @@
 -- What a session holds after each call and what the call answers, for any session and any arguments: the step of the machine of
 -- document 01, with the session's fields for its state.
+use mathlib.Core.Bool.{cond}
 use mathlib.Core.List.{List, [], _++_}
 use Prim.Native.Nat.{ℕ, _-_, _*_}
 use lib.Dec.{eqb}
@@ -8,10 +9,12 @@ use Rattle.mondschein.specs.Network.{Network, size}
 use Rattle.mondschein.specs.Judge.{given, refused, loading, closing}
 use Rattle.mondschein.specs.Outcome.{Outcome, settle}
 use Rattle.mondschein.specs.WholeList.{offering, earsIn}
-use Rattle.mondschein.specs.EmptyEar.{entering}
+use Rattle.mondschein.specs.EmptyEar.{isEmpty, entering}
 use Rattle.network.specs.Load.{networkOf}
 use Rattle.rows.specs.Rows.{marked}
-use Rattle.tables.specs.Tables.{Tables, tablesOf, afterOffer, tree3Of}
+use Rattle.left_over.specs.LeftOver.{usedAfterEmpty}
+use Rattle.closing.specs.Tree3.{tree3Of}
+use Rattle.tables.specs.Tables.{Tables, tablesOf, afterEar}
 use Rattle.in_place.specs.declared.Stage.{Stage}
 use Rattle.in_place.specs.declared.Stage.the-variants.{Empty, Open, Closed}
 use Rattle.in_place.specs.declared.Session.{Session}
@@ -85,6 +88,12 @@ networkIn s = networkAs (storedIn s)
 
 abbrev pub tablesIn : Session → Tables
 tablesIn s = tablesOf (s .used) (s .longs) (s .births) (s .born) (s .order) (s .tree1) (s .tree2)
+
+-- the tables after an offered ear: an empty one changes the used links alone
+unfoldable pub afterOffer : Network → List ℕ → Tables → Tables
+afterOffer net e t =
+    cond (isEmpty (eqb (t .born) 0) e)
+    (tablesOf (usedAfterEmpty net (t .births) (t .used)) (t .longs) (t .births) (t .born) (t .order) (t .tree1) (t .tree2)) (afterEar net e t)
 
 -- the session with other tables
 abbrev pub withTables : Session → Tables → Session

@@ -1,10 +1,10 @@
 // What a session is, and ear, close, parent and walk in place: over what it holds beside its arrays, by value, and the arrays, lent.
 // An index of the links may be lent beside them; a slice of another length than an index means that there is none.
+use closing::Close;
 use judge::Ear;
 use network::Load;
 use network::MAX_LINKS;
 use network::MAX_SWITCHES;
-use tables::Close;
 use walks::Parent;
 use walks::Walk;
 ghost use mathlib.Core.Path.{_≡_};
@@ -12,7 +12,7 @@ ghost use lib.Dec.{eqb};
 ghost use lib.ListN.{length};
 ghost use Rattle.mondschein.specs.EmptyEar.{isEmpty};
 ghost use Rattle.shape.specs.declared.Ear.the-variants as Ear·;
-ghost use Rattle.tables.specs.declared.Close.the-variants as Close·;
+ghost use Rattle.closing.specs.declared.Close.the-variants as Close·;
 ghost use Rattle.in_place.specs.Session.{emptySession};
 ghost use Rattle.in_place.specs.InPlace.{emptyState, closedState, IndexedIn, JudgesOpen, OffersOpen, OffersIn, ClosesOpen, ClosesIn, ParentIn, WalksIn};
 
@@ -209,7 +209,7 @@ fn enter_open(
 {
     if is_empty(st.born, ear) {
         let numbers = rows::least(2 * (st.m as usize), links.len());
-        tables::take_left_over(&links[..numbers], births, used);
+        left_over::take_left_over(&links[..numbers], births, used);
         let none_new = Ear::New(0);
         return OfferedIn {
             answer: none_new,
@@ -303,11 +303,11 @@ fn close_open(st: State, links: &[u16], used: &[u8], births: &[u16], tree3: &mut
 {
     let numbers = rows::least(2 * (st.m as usize), links.len());
     let table = &links[..numbers];
-    let answer = tables::check_used(table, used);
+    let answer = closing::check_used(table, used);
     match answer {
         Close::Refused(number, place) => close_refused(number, place, st),
         Close::Closed => {
-            tables::set_tree3(tree3, st.n, table, st.root, st.last, births);
+            closing::set_tree3(tree3, st.n, table, st.root, st.last, births);
             closed(st)
         }
     }

@@ -1,9 +1,8 @@
-// One ear against lent tables: its shape, then the first offending index of each check, 12 to 16.
+// One ear against lent tables: its shape, then the first offending index of each check from 12.
 // Births and used links are lent as marks, 0 for unborn and unused.
 pub use shape::Ear;
 ghost use mathlib.Core.Path.{_≡_};
-ghost use mathlib.Core.Bool.{true, false, not, _&&_};
-ghost use mathlib.Core.List.{[]};
+ghost use mathlib.Core.Bool.{false, not, _&&_};
 ghost use Prim.Native.Nat.{_≤_};
 ghost use lib.ListN.{length};
 ghost use Rattle.mondschein.specs.Network.{low, at, isNew};
@@ -12,7 +11,7 @@ ghost use Rattle.network.specs.Index.{Indexed};
 ghost use Rattle.network.specs.Load.{networkOf, tableOf};
 ghost use Rattle.rows.specs.Rows.{marked};
 ghost use Rattle.shape.specs.Shape.{earAnswer};
-ghost use Rattle.judge.specs.Ear.{placeChecks, ShortLink};
+ghost use Rattle.judge.specs.Ear.{FirstAnswer, LaterAnswer, ShortLink};
 
 // 13: the index of the first end that is unborn, or the length.
 fn first_unborn_end(births: &[u16], ear: &[u16]) -> usize
@@ -29,24 +28,10 @@ fn first_unborn_end(births: &[u16], ear: &[u16]) -> usize
     len
 }
 
-// 14, over the part between the ends: the first switch that is born.
-fn first_born(births: &[u16], part: &[u16]) -> usize
-    ensures { λ r. ⌜ r ≡ low (λ k. marked (now (births .entry)) (at (now (part .entry)) k)) (length (now (part .entry))) ⌝ }
-{
-    let mut k = 0;
-    while k < part.len() {
-        if 0 < rows::entry(births, part[k]) {
-            return k;
-        }
-        k += 1;
-    }
-    k
-}
-
 // 15 of a later ear: the index of last between the ends where it comes too early, or the length.
 fn last_too_early(n: u16, root: u16, last: u16, births: &[u16], ear: &[u16]) -> usize
     requires { ⌜ 2 ≤ length (now ear) ⌝ }
-    ensures { λ r. ⌜ r ≡ low (lastMisplaced (networkOf n [] root 0 last) (marked (now (births .entry))) (marked []) false (now (ear .entry))) (length (now (ear .entry))) ⌝ }
+    ensures { λ r. ⌜ r ≡ low (lastMisplaced n root last (marked (now (births .entry))) false (now (ear .entry))) (length (now (ear .entry))) ⌝ }
 {
     let len = ear.len();
     let part = &ear[1..len - 1];
@@ -69,7 +54,7 @@ fn last_too_early(n: u16, root: u16, last: u16, births: &[u16], ear: &[u16]) -> 
     len
 }
 
-// Checks 12 to 16 of a first ear whose shape is right.
+// Checks 12, 15 and 16 of a first ear whose shape is right; 13 is not asked of it.
 fn check_first(
     n: u16,
     links: &[u16],
@@ -81,7 +66,7 @@ fn check_first(
     ear: &[u16],
 ) -> Ear
     requires { ⌜ (3 ≤ length (now ear)) × (length (now ear) ≤ n) × Indexed (tableOf (now links)) (now index) ⌝ }
-    ensures { λ r. ⌜ earAnswer r ≡ placeChecks (networkOf n (now (links .entry)) root first last) (marked (now (births .entry))) (marked []) true (now (ear .entry)) ⌝ }
+    ensures { λ r. ⌜ FirstAnswer n (now (links .entry)) root first last (now (births .entry)) (now (ear .entry)) (earAnswer r) ⌝ }
 {
     let len = ear.len();
     if ear[0] != root {
@@ -101,7 +86,7 @@ fn check_first(
     Ear::New(len as u16)
 }
 
-// Checks 12 to 16 of a later ear whose shape is right.
+// Checks 13, 15 and 16 of a later ear whose shape is right; 12 is not asked of it.
 fn check_later(
     n: u16,
     links: &[u16],
@@ -112,22 +97,18 @@ fn check_later(
     ear: &[u16],
 ) -> Ear
     requires { ⌜ (2 ≤ length (now ear)) × (length (now ear) ≤ n) × Indexed (tableOf (now links)) (now index) ⌝ }
-    ensures { λ r. ⌜ earAnswer r ≡ placeChecks (networkOf n (now (links .entry)) root 0 last) (marked (now (births .entry))) (marked []) false (now (ear .entry)) ⌝ }
+    ensures { λ r. ⌜ LaterAnswer n (now (links .entry)) root last (now (births .entry)) (now (ear .entry)) (earAnswer r) ⌝ }
 {
     let len = ear.len();
     let end = first_unborn_end(births, ear);
     if end < len {
         return Ear::Refused(13, end as u16);
     }
-    let part = &ear[1..len - 1];
-    let born = first_born(births, part);
-    if born < len - 2 {
-        return Ear::Refused(14, (born + 1) as u16);
-    }
     let early = last_too_early(n, root, last, births, ear);
     if early < len {
         return Ear::Refused(15, early as u16);
     }
+    let part = &ear[1..len - 1];
     let cut = unborn::first_cut_off(n, last, links, index, births, ear, part);
     if cut < len - 2 {
         return Ear::Refused(16, (cut + 1) as u16);
@@ -182,7 +163,7 @@ pub fn short_link(
     l
 }
 
-// The ear judged by checks 7 to 16, in number order: the first refusal, or the number of new switches.
+// The ear judged by checks 7 to 16, in their order: the first refusal, or the number of new switches.
 pub fn judge(
     n: u16,
     links: &[u16],
@@ -198,7 +179,7 @@ pub fn judge(
     requires { ⌜ Indexed (tableOf (now links)) (now index) ⌝ }
     ensures { λ r. ⌜ earAnswer r ≡ verdict (networkOf n (now (links .entry)) root first last) (marked (now (births .entry))) (marked (now (used .entry))) initial (now (ear .entry)) ⌝ }
 {
-    let shape = shape::check_shape(n, links, index, used, initial, ear);
+    let shape = shape::check_shape(n, links, index, births, used, initial, ear);
     let Ear::New(count) = shape else {
         return shape;
     };

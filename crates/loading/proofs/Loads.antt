@@ -12,10 +12,10 @@ use lib.ListN.{length, getD, set, take, replicate, length-take, length-replicate
 use lib.Seq.{take-suc, take-all, set-append-seam}
 use borrow.Author.Tests.{ltb-false, lt-ltb, le-ltb, not-false, eqb-true}
 use Rattle.mondschein.specs.Network.{Network, size}
-use Rattle.mondschein.specs.Judge.{given, refused, wrongSize, loading}
+use Rattle.mondschein.specs.Judge.{given, refused, wrongSize, loading, loadingBy}
 use Rattle.mondschein.proofs.Logic.{or-left, true-or, or-false}
 use Rattle.mondschein.proofs.Checks.{check-fail, check-pass, check-given}
-use Rattle.network.specs.Load.{networkOf, tableChecks}
+use Rattle.network.specs.Load.{networkOf, tableOrder}
 use Rattle.network.proofs.Loading.{table-loading}
 use Rattle.in_place.specs.Session.{padded}
 use Rattle.in_place.specs.InPlace.{Paired}
@@ -92,7 +92,7 @@ module _ (n : ℕ) (links : List ℕ) (root first last : ℕ) where
   unfolding wrongSize size
   load-1 h = table-loading (networkOf n links root first last) ∙ check-fail 1 _ _ h
 
-  pub load-rest : wrongSize (networkOf n links 0 0 0) 0 ≡ false → loading (networkOf n links root first last) ≡ tableChecks (networkOf n links root first last)
+  pub load-rest : wrongSize (networkOf n links 0 0 0) 0 ≡ false → loading (networkOf n links root first last) ≡ loadingBy tableOrder (networkOf n links root first last)
   unfolding wrongSize size
   load-rest h = table-loading (networkOf n links root first last) ∙ check-pass 1 1 _ _ (λ k _. h)
 

@@ -1,5 +1,5 @@
--- Document 01's impostors, and one each of Notes 1 and 2, as programs that are the machine but for one thing, with the demand that each does
--- not meet. So none of the demands 1, 2 and 3 holds of every program, nor do OneByOne and EmptyEar.
+-- Document 01's impostors, and one each of Notes 1 to 3, as programs that are the machine but for one thing, with the demand that each does
+-- not meet. So none of the demands 1, 2 and 3 holds of every program, nor do OneByOne, EmptyEar and CrossedTold.
 use mathlib.Core.Path.{_≡_, refl, ap}
 use mathlib.Core.Logic.{inr, ⊎-elim}
 use mathlib.Core.Bool.{true, _&&_, cond}
@@ -9,21 +9,22 @@ use native.Mathlib.Omega.{arith}
 use lib.Dec.{ltb}
 use lib.ListN.{length}
 use Rattle.mondschein.specs.Network.{low, any, count, Network, at, holds, size, former, latter, joins, joined, passes, linkOf, Ears, born, birth, trail, used, isNew, newCount, newSwitches}
-use Rattle.mondschein.specs.Judge.{Answer, given, refused, check, wrongSize, linkTooLarge, selfLink, repeatedLink, wrongNames, missingLink, loading, wrongLength, tooLarge, repeated, notJoined, usedAlready, wrongCycle, unbornEnd, bornBetween, otherNew, otherUnborn, rootEnd, lastMisplaced, noneUnborn, verdict, judge, closing}
+use Rattle.mondschein.specs.Judge.{Answer, given, refused, check, wrongSize, linkTooLarge, selfLink, repeatedLink, wrongNames, missingLink, loadChecks, loadingBy, wrongLength, tooLarge, repeated, notJoined, usedAlready, wrongCycle, unbornEnd, bornBetween, otherNew, otherUnborn, rootEnd, lastMisplaced, noneUnborn, checked, numbered, earChecks, verdictBy, judge, closing}
 use Rattle.mondschein.specs.Order.{position, fromA, between, extend, order, course, parent1, parent2, parent3By, parentOf}
 use Rattle.mondschein.specs.Outcome.{granted, Outcome, settle, unknown}
 use Rattle.mondschein.specs.WholeList.{offeringFrom, earsFrom, earsIn, flat}
 use Rattle.mondschein.specs.EmptyEar.{leftOver, shortEars, isEmpty, entering, answerTo, writtenOut}
+use Rattle.mondschein.specs.CrossedFirst.{oldAnswerTo}
 use Rattle.mondschein.specs.Mondschein.{Mondschein}
-use Rattle.mondschein.proofs.Outcomes.{never}
+use Rattle.mondschein.proofs.Checks.{never}
 use Rattle.mondschein.proofs.Excluded.{link-in-three-trees}
 use Rattle.machine.specs.Machine.{plan, closedPlan, State, empty, opened, closed, byState, Call, load, ear, ears, close, clear, longer, offer, answers, told, tells, parentCall, walkCall, orderOf, sizeOf, Program, historyFrom, history}
-use Rattle.machine.specs.Demands.{Demand1, OneByOne, Demand2, EmptyEar, Demand3}
+use Rattle.machine.specs.Demands.{Demand1, OneByOne, Demand2, EmptyEar, CrossedTold, Demand3}
 use Rattle.machine.proofs.Demand2.{plain}
 
 -- to unfold this is to unfold the judge, the tables and the machine
 computed : Unit {0}
-unfolding low any count holds size former latter joins joined passes linkOf born birth trail used isNew newCount newSwitches check wrongSize linkTooLarge selfLink repeatedLink wrongNames missingLink loading wrongLength tooLarge repeated notJoined usedAlready wrongCycle unbornEnd bornBetween otherNew otherUnborn rootEnd lastMisplaced noneUnborn verdict judge closing position fromA between extend order course parent1 parent2 parent3By parentOf granted settle unknown offeringFrom earsFrom flat leftOver shortEars isEmpty entering answerTo writtenOut longer offer answers told tells parentCall historyFrom
+unfolding low any count holds size former latter joins joined passes linkOf born birth trail used isNew newCount newSwitches check wrongSize linkTooLarge selfLink repeatedLink wrongNames missingLink loadChecks loadingBy wrongLength tooLarge repeated notJoined usedAlready wrongCycle unbornEnd bornBetween otherNew otherUnborn rootEnd lastMisplaced noneUnborn checked numbered earChecks verdictBy judge closing position fromA between extend order course parent1 parent2 parent3By parentOf granted settle unknown offeringFrom earsFrom flat leftOver shortEars isEmpty entering answerTo writtenOut longer offer answers told tells parentCall historyFrom
 computed = tt
 
 -- document 01's first network, and the list that closes there
@@ -197,3 +198,18 @@ takes-nothing d = never (d .closes (load net ∷ map ear long) (plan net long) r
     all-born (suc (suc zero)) l = refl
     all-born (suc (suc (suc zero))) l = refl
     all-born (suc (suc (suc (suc v)))) l = absurd (omega arith)
+
+-- one that asks in the order of document 01: it tells the used link of a long ear
+abbrev oldAnswer : State → Call → Answer
+oldAnswer s (load net) = answers (load net) s
+oldAnswer s (ear e) = byState (refused 19 0) (λ p. oldAnswerTo (p .net) (p .ears) e) (λ p. refused 22 0) s
+oldAnswer s (ears l) = answers (ears l) s
+oldAnswer s close = answers close s
+oldAnswer s clear = answers clear s
+
+pub tells-the-link : CrossedTold (record { Session = State; fresh = empty; after = λ s c. tells c (oldAnswer s c) s; answer = oldAnswer; parent = parentCall; walk = walkCall; order = orderOf; size = sizeOf }) → ⊥
+unfolding computed oldAnswerTo
+tells-the-link d =
+    let (_, q) = d (load net ∷ ear cycle ∷ []) (plan net (cycle ∷ [])) refl (3 ∷ 0 ∷ 2 ∷ []) .from11 ((omega arith, refl), omega arith, (1, omega arith, refl)) in
+    let z : _≡_ {A = ℕ} 11 14 = cc in
+    absurd (omega arith)

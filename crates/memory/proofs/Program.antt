@@ -13,7 +13,8 @@ use Rattle.mondschein.specs.Outcome.{Outcome, settle}
 use Rattle.mondschein.specs.WholeList.{nextRefused, earsIn}
 use Rattle.mondschein.proofs.Logic.{clash}
 use Rattle.mondschein.proofs.Lists.{in-holds}
-use Rattle.mondschein.proofs.Outcomes.{never, settle-refused, settle-given}
+use Rattle.mondschein.proofs.Checks.{never}
+use Rattle.mondschein.proofs.Outcomes.{settle-refused, settle-given}
 use Rattle.mondschein.proofs.WholeList.{given-values, offering-given, offering-alike}
 use Rattle.machine.specs.Machine.{Call, load, ear, ears, close, clear, session}
 use Rattle.machine.specs.Demands.{Refusal, offerBy, Demand1, OneByOne, Promises}

@@ -13,14 +13,15 @@ use Rattle.mondschein.specs.Judge.{Answer, given, refused}
 use Rattle.mondschein.specs.Outcome.{Outcome, settle}
 use Rattle.mondschein.proofs.Logic.{or-false}
 use Rattle.mondschein.specs.WholeList.{earsIn}
-use Rattle.mondschein.proofs.Outcomes.{never, settle-refused, settle-given}
+use Rattle.mondschein.proofs.Checks.{never}
+use Rattle.mondschein.proofs.Outcomes.{settle-refused, settle-given}
 use Rattle.mondschein.proofs.WholeList.{offering-alike}
 use Rattle.machine.specs.Machine.{ear, ears}
-use Rattle.tables.specs.Tables.{afterOffer, tree3Of}
+use Rattle.closing.specs.Tree3.{tree3Of}
 use Rattle.in_place.specs.declared.Stage.{Stage}
 use Rattle.in_place.specs.declared.Stage.the-variants.{Empty, Open, Closed}
 use Rattle.in_place.specs.declared.Session.{Session}
-use Rattle.in_place.specs.Session.{networkIn, tablesIn, withTables, closedWith, byStage, loadedBy, offeredBy, listedBy, closedBy}
+use Rattle.in_place.specs.Session.{networkIn, tablesIn, afterOffer, withTables, closedWith, byStage, loadedBy, offeredBy, listedBy, closedBy}
 use Rattle.in_place.specs.InPlace.{SizedAs}
 use Rattle.session.specs.Calls.{called}
 use Rattle.memory.specs.declared.Refusal.{Refusal}

@@ -17,7 +17,7 @@ use Rattle.mondschein.specs.Mondschein.{Birth}
 use Rattle.mondschein.proofs.Logic.{which, clash, less?}
 use Rattle.mondschein.proofs.Search.{IsLow, low-is, low-eq, low-none, any-true, any-false, true-any, any-suc, any-ext, count-ext}
 use Rattle.mondschein.proofs.Lists.{at-same, holds-in, in-holds}
-use Rattle.mondschein.proofs.Checks.{end-new, Passed, given-passed}
+use Rattle.mondschein.proofs.Passed.{end-new, Passed, given-passed}
 
 pub born-at : (es : Ears) (x : ℕ) → born es x ≡ true → (i : ℕ) × (i < length es) × (holds (earAt es i) x ≡ true)
 unfolding born
@@ -171,7 +171,7 @@ module _ (net : Network) (es : Ears) where
   unfolding judge
   accepted-passing a i l =
       let (k, q) = a i l in
-      given-passed net (take i es) (eqb i 0) (earAt es i) (k ∷ [])
+      given-passed net (born (take i es)) (used net (take i es)) (eqb i 0) (earAt es i) (k ∷ [])
       (subst (λ (n : ℕ). verdict net (born (take i es)) (used net (take i es)) (eqb n 0) (earAt es i) ≡ given (k ∷ [])) (length-take-le i es (omega arith)) q)
 
   module _ (acc : Passing net es) where

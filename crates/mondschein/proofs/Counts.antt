@@ -10,12 +10,12 @@ use lib.Dec.{eqb, ltb}
 use lib.ListN.{length, take}
 use lib.Seq.{length-take-le}
 use borrow.Author.Tests.{lt-ltb, le-ltb, eqb-true}
-use Rattle.mondschein.specs.Network.{count, Network, at, Ears, earAt, born, isNew, newCount, newSwitches}
+use Rattle.mondschein.specs.Network.{count, Network, at, Ears, earAt, born, isNew, newCount, newSwitches, used}
 use Rattle.mondschein.specs.Judge.{given, judge, Accepted}
 use Rattle.mondschein.proofs.Logic.{which, true-and, false-and}
 use Rattle.mondschein.proofs.Search.{count-ext, count-shift, count-skip, count-all}
 use Rattle.mondschein.proofs.Lists.{at-same, count-list}
-use Rattle.mondschein.proofs.Checks.{Passed, given-passed, passed-given}
+use Rattle.mondschein.proofs.Passed.{Passed, given-passed, passed-given}
 use Rattle.mondschein.proofs.Births.{Passing, born-at}
 use Rattle.mondschein.proofs.Inner.{where?}
 
@@ -66,11 +66,11 @@ module _ (net : Network) (es : Ears) (e : List ℕ) where
 
   pub judged : Passed net es (eqb (length es) 0) e → judge net es e ≡ given (newSwitches net es e ∷ [])
   unfolding judge
-  judged p = passed-given net es (eqb (length es) 0) e p ∙ ap (λ (k : ℕ). given (k ∷ [])) (passed-count p)
+  judged p = passed-given net (born es) (used net es) (eqb (length es) 0) e p ∙ ap (λ (k : ℕ). given (k ∷ [])) (passed-count p)
 
   pub judge-passed : (vs : List ℕ) → judge net es e ≡ given vs → Passed net es (eqb (length es) 0) e
   unfolding judge
-  judge-passed vs q = given-passed net es (eqb (length es) 0) e vs q
+  judge-passed vs q = given-passed net (born es) (used net es) (eqb (length es) 0) e vs q
 
   -- every accepted ear gives it
   pub judge-count : (vs : List ℕ) → judge net es e ≡ given vs → vs ≡ newSwitches net es e ∷ []

@@ -17,7 +17,7 @@ use Rattle.mondschein.proofs.Logic.{less?, trichotomy, and-true, false-
 use Rattle.mondschein.proofs.Search.{any-suc, count-none}
 use Rattle.mondschein.proofs.Lists.{out-holds}
 use Rattle.mondschein.proofs.Links.{adjacent-joined, link-unique, link-is}
-use Rattle.mondschein.proofs.Checks.{Passed}
+use Rattle.mondschein.proofs.Passed.{Passed}
 use Rattle.mondschein.proofs.Short.{short-given}
 use Rattle.mondschein.proofs.WholeList.{no-number, one-number}
 use Rattle.mondschein.proofs.Births.{born-snoc, used-snoc, long-snoc, long-birth-snoc, accepted-snoc}

@@ -14,7 +14,7 @@ use Rattle.mondschein.specs.Network.{Network, at, Simple, holds, Ears, e
 use Rattle.mondschein.specs.Order.{position, fromA, extend, order, course, parent1, parent2}
 use Rattle.mondschein.proofs.Logic.{which, clash, less?}
 use Rattle.mondschein.proofs.Lists.{holds-at, holds-by, holds-nil}
-use Rattle.mondschein.proofs.Checks.{Passed}
+use Rattle.mondschein.proofs.Passed.{Passed}
 use Rattle.mondschein.proofs.Births.{Passing, first-passed, later-passed, born-at, at-born, born-take, take-born, birth-lt, birth-old, birth-new, old-ear}
 use Rattle.mondschein.proofs.Order.{position-is, position-at, Fits, Turned, fromA-turned, turned-back, extend-old, extend-root, extend-last, extend-course, extend-sound, extend-keeps, extend-brings, extend-simple}
 

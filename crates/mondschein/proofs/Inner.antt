@@ -12,7 +12,7 @@ use Rattle.mondschein.specs.Network.{at, Simple, Ears, earAt, birth, isN
 use Rattle.mondschein.specs.Mondschein.{On, Before, End, Inner, Long}
 use Rattle.mondschein.proofs.Logic.{less?}
 use Rattle.mondschein.proofs.Lists.{at-same, holds-in, in-holds}
-use Rattle.mondschein.proofs.Checks.{new-between, between-new}
+use Rattle.mondschein.proofs.Passed.{new-between, between-new}
 use Rattle.mondschein.proofs.Births.{birth-is, birth-le}
 
 -- an index of a list is its first, its last, or between

@@ -26,10 +26,10 @@ holds-at l k h = true-any (λ j. eqb (at l j) (at l k)) (length l) k h (eq-eqb (
 pub holds-by : (l : List ℕ) (k x : ℕ) → k < length l → at l k ≡ x → holds l x ≡ true
 holds-by l k x h e = subst (λ (y : ℕ). holds l y ≡ true) e (holds-at l k h)
 
-holds-here : (y : ℕ) (l : List ℕ) → holds (y ∷ l) y ≡ true
+pub holds-here : (y : ℕ) (l : List ℕ) → holds (y ∷ l) y ≡ true
 holds-here y l = holds-at (y ∷ l) 0 (omega arith)
 
-holds-there : (y : ℕ) (l : List ℕ) (x : ℕ) → holds l x ≡ true → holds (y ∷ l) x ≡ true
+pub holds-there : (y : ℕ) (l : List ℕ) (x : ℕ) → holds l x ≡ true → holds (y ∷ l) x ≡ true
 holds-there y l x h =
     let w = holds-in l x h in
     subst (λ (z : ℕ). holds (y ∷ l) z ≡ true) (w .2) (holds-at (y ∷ l) (suc (w .0)) (omega (arith, w .1)))

@@ -15,7 +15,7 @@ use Rattle.mondschein.specs.Order.{fromA, extend, order, parent1, parent
 use Rattle.mondschein.specs.Mondschein.{Mondschein}
 use Rattle.mondschein.specs.EmptyEar.{isEmpty, answerTo, entered, writtenOut, allWrittenOut, longOnes, LongEarsEnough}
 use Rattle.mondschein.proofs.Logic.{which, less?, or-false, false-or}
-use Rattle.mondschein.proofs.Checks.{Passed}
+use Rattle.mondschein.proofs.Passed.{Passed}
 use Rattle.mondschein.proofs.Births.{Passing, accepted-passing, accepted-prefix, accepted-snoc, next-passed, used-snoc, long-snoc, long-birth-snoc}
 use Rattle.mondschein.proofs.Counts.{judged, passing-accepted}
 use Rattle.mondschein.proofs.SameTables.{SameTables, same-itself, same-on, same-more}

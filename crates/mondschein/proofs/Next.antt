@@ -14,7 +14,7 @@ use Rattle.mondschein.specs.Network.{Network, at, Simple, holds, Ears, e
 use Rattle.mondschein.specs.Order.{position, upward, fromA, between, order, parent1, parent2}
 use Rattle.mondschein.proofs.Logic.{which, clash, true-and, false-and}
 use Rattle.mondschein.proofs.Lists.{at-same, at-reverse, holds-in, holds-by, holds-at}
-use Rattle.mondschein.proofs.Checks.{Passed}
+use Rattle.mondschein.proofs.Passed.{Passed}
 use Rattle.mondschein.proofs.Births.{Passing, first-passed, born-at, at-born}
 use Rattle.mondschein.proofs.Order.{position-is, between-length, between-at}
 use Rattle.mondschein.proofs.Growth.{root-held, parent1-new, parent2-new}

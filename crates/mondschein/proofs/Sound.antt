@@ -15,7 +15,7 @@ use Rattle.mondschein.proofs.Logic.{clash, same?, less?, trichotomy, or
 use Rattle.mondschein.proofs.Search.{true-any}
 use Rattle.mondschein.proofs.Lists.{at-same, holds-in, in-holds}
 use Rattle.mondschein.proofs.Links.{cases-joins, joined-adjacent, adjacent-joined, joined-sym, passes-along, along-passes, passes-held, trail-held, link-unique}
-use Rattle.mondschein.proofs.Checks.{Passed}
+use Rattle.mondschein.proofs.Passed.{Passed}
 use Rattle.mondschein.proofs.Births.{Passing, first-passed, later-passed, ear-two, earlier, born-at, born-take, take-born, birth-is, birth-lt, birth-isNew, birth-birth}
 use Rattle.mondschein.proofs.Trees.{user, some-ear, last-born, all-born, last-apart}
 use Rattle.mondschein.proofs.Inner.{where?, NewAt, inner-new, new-long, inner-birth}

@@ -10,7 +10,7 @@ use lib.ListN.{length, take, drop, length-append}
 use lib.Seq.{take-at, drop-at}
 use borrow.Author.Tests.{le-leb, lt-leb, lt-ltb}
 use Rattle.mondschein.specs.Network.{Network, at, Ears}
-use Rattle.mondschein.specs.Judge.{Answer, given, refused, wrongLength, verdict, judge}
+use Rattle.mondschein.specs.Judge.{Answer, given, refused, checked, numbered, earChecks, wrongLength, verdictBy, judge}
 use Rattle.mondschein.specs.Outcome.{Outcome}
 use Rattle.mondschein.specs.WholeList.{nextRefused, byAnswer, offeringFrom, offering, offered, earsFrom, earsIn, flat, ReadsEars}
 use Rattle.mondschein.proofs.Logic.{or-left}
@@ -166,7 +166,7 @@ reads-ears =
 -- one number is 7 for the judge, so a count past the end is; and so is none
 module _ (net : Network) (es : Ears) (e : List ℕ) where
   too-few : length e < 2 → judge net es e ≡ refused 7 0
-  unfolding judge verdict wrongLength
+  unfolding judge verdictBy checked numbered earChecks wrongLength
   too-few l = check-fail 7 _ _ (or-left _ _ (go (eqb (length es) 0)))
     where
       go : (b : Bool) → ltb (length e) (cond b 3 2) ≡ true

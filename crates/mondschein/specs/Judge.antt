@@ -1,7 +1,7 @@
--- Document 01, "Refusals from the input": what load, ear and close answer by the numbered checks, each over the whole input,
--- in number order. The judge of an ear asks the network, which switches are born, which links used and whether it is the first.
+-- Document 01, "Refusals from the input": what load, ear and close answer by the numbered checks, each over the whole input. A test takes
+-- what it asks; `loadOrder` and `checkOrder` say in which order the checks of a network and of an ear are asked.
 use mathlib.Core.Path.{_≡_}
-use mathlib.Core.Bool.{Bool, not, _&&_, _||_, cond}
+use mathlib.Core.Bool.{Bool, false, not, _&&_, _||_, cond}
 use mathlib.Core.List.{List, [], _∷_}
 use Prim.Native.Nat.{ℕ, suc, pred, _%_, _<_}
 use lib.Dec.{eqb, ltb, leb}
@@ -16,6 +16,20 @@ pub data Answer : Type 0 where
 -- check `num` of the places below c: the first bad one is told, and where none is bad, what comes after
 unfoldable pub check : ℕ → ℕ → (ℕ → Bool) → Answer → Answer
 check num c bad after = cond (ltb (low bad c) c) (refused num (low bad c)) after
+
+-- a check: its number, how many places it has, and which of them are bad
+abbrev pub Check : Type 0
+Check = ℕ × ℕ × (ℕ → Bool)
+
+-- the check of that number; one that is not in the list has no places
+unfoldable pub numbered : ℕ → List Check → Check
+numbered num [] = (num, 0, λ k. false)
+numbered num (c ∷ cs) = cond (eqb (c .0) num) c (numbered num cs)
+
+-- the checks of these numbers, one after another, and where none finds a bad place, what comes after
+unfoldable pub checked : List Check → List ℕ → Answer → Answer
+checked cs [] after = after
+checked cs (num ∷ nums) after = let c = numbered num cs in check num (c .1) (c .2) (checked cs nums after)
 
 -- the limits of N and of M
 abbrev pub limits : record { minSwitches : ℕ; maxSwitches : ℕ; minLinks : ℕ; maxLinks : ℕ }
@@ -51,84 +65,109 @@ module _ (net : Network) where
   unfoldable pub missingLink : ℕ → Bool
   missingLink k = not (joined net (net .root) (net .first) && joined net (net .root) (net .last))
 
-  unfoldable pub loading : Answer
-  loading =
-      check 1 1 wrongSize
-      (check 2 (size net) linkTooLarge
-      (check 3 (size net) selfLink
-      (check 4 (size net) repeatedLink
-      (check 5 1 wrongNames
-      (check 6 1 missingLink
-      (given (net .n ∷ size net ∷ [])))))))
+  -- the checks of the network
+  unfoldable pub loadChecks : List Check
+  loadChecks =
+      (1, 1, wrongSize)
+      ∷ (2, size net, linkTooLarge)
+      ∷ (3, size net, selfLink)
+      ∷ (4, size net, repeatedLink)
+      ∷ (5, 1, wrongNames)
+      ∷ (6, 1, missingLink)
+      ∷ []
 
--- the ear e, the first or a later one, offered where `isBorn` are born and `isUsed` used
-module _ (net : Network) (isBorn isUsed : ℕ → Bool) (isFirst : Bool) (e : List ℕ) where
-  -- x is still unborn after the ear
-  abbrev pub unborn : ℕ → Bool
-  unborn x = not (isBorn x || holds e x)
+-- the order in which they are asked: that of their numbers
+abbrev pub loadOrder : List ℕ
+loadOrder = 1 ∷ 2 ∷ 3 ∷ 4 ∷ 5 ∷ 6 ∷ []
 
-  -- 7: fewer than 2 numbers (first ear: 3) or more than N
-  unfoldable pub wrongLength : ℕ → Bool
-  wrongLength k = ltb (length e) (cond isFirst 3 2) || ltb (net .n) (length e)
+-- what a network is answered by the checks of these numbers, one after another: a refusal, or N and M
+unfoldable pub loadingBy : List ℕ → Network → Answer
+loadingBy nums net = checked (loadChecks net) nums (given (net .n ∷ size net ∷ []))
 
-  -- 8: a number of N or more
-  unfoldable pub tooLarge : ℕ → Bool
-  tooLarge k = leb (net .n) (at e k)
+abbrev pub loading : Network → Answer
+loading = loadingBy loadOrder
 
-  -- 9: a switch stands twice; the place of its second standing
-  unfoldable pub repeated : ℕ → Bool
-  repeated k = any (λ j. eqb (at e j) (at e k)) k
+-- what the checks of an ear ask of it, the first or a later one, where `isBorn` are born and `isUsed` used
+-- 7: fewer than 2 numbers (first ear: 3) or more than N
+unfoldable pub wrongLength : ℕ → Bool → List ℕ → ℕ → Bool
+wrongLength n isFirst e k = ltb (length e) (cond isFirst 3 2) || ltb n (length e)
 
-  -- 10: two neighbours not joined; the place of the former
-  unfoldable pub notJoined : ℕ → Bool
-  notJoined k = not (joined net (at e k) (at e (suc k)))
+-- 8: a number of N or more
+unfoldable pub tooLarge : ℕ → List ℕ → ℕ → Bool
+tooLarge n e k = leb n (at e k)
 
-  -- 11: a link used by an earlier ear; the place of its former switch
-  unfoldable pub usedAlready : ℕ → Bool
-  usedAlready k = isUsed (linkOf net (at e k) (at e (suc k)))
+-- 9: a switch stands twice; the place of its second standing
+unfoldable pub repeated : List ℕ → ℕ → Bool
+repeated e k = any (λ j. eqb (at e j) (at e k)) k
 
-  -- 12: the first ear does not run from root to first
-  unfoldable pub wrongCycle : ℕ → Bool
-  wrongCycle k = isFirst && not (eqb (at e 0) (net .root) && eqb (at e (pred (length e))) (net .first))
+-- 10: two neighbours not joined; the place of the former
+unfoldable pub notJoined : Network → List ℕ → ℕ → Bool
+notJoined net e k = not (joined net (at e k) (at e (suc k)))
 
-  -- 13: an end of a later ear is unborn
-  unfoldable pub unbornEnd : ℕ → Bool
-  unbornEnd k = not isFirst && (not (isNew isFirst (length e) k) && not (isBorn (at e k)))
+-- 11: a link used by an earlier ear; the place of its former switch
+unfoldable pub usedAlready : Network → (ℕ → Bool) → List ℕ → ℕ → Bool
+usedAlready net isUsed e k = isUsed (linkOf net (at e k) (at e (suc k)))
 
-  -- 14: a switch between the ends is born already
-  unfoldable pub bornBetween : ℕ → Bool
-  bornBetween k = not isFirst && (isNew isFirst (length e) k && isBorn (at e k))
+-- 12: the first ear does not run from root to first
+unfoldable pub wrongCycle : ℕ → ℕ → Bool → List ℕ → ℕ → Bool
+wrongCycle root first isFirst e k = isFirst && not (eqb (at e 0) root && eqb (at e (pred (length e))) first)
 
-  -- 15: last is new here, and another switch is new here, or another is still unborn after the ear, or an end is root
-  unfoldable pub otherNew : ℕ → Bool
-  otherNew k = any (λ j. isNew isFirst (length e) j && not (eqb j k)) (length e)
+-- 13: an end of a later ear is unborn
+unfoldable pub unbornEnd : (ℕ → Bool) → Bool → List ℕ → ℕ → Bool
+unbornEnd isBorn isFirst e k = not isFirst && (not (isNew isFirst (length e) k) && not (isBorn (at e k)))
 
-  unfoldable pub otherUnborn : Bool
-  otherUnborn = any (λ x. not (eqb x (net .last)) && unborn x) (net .n)
+-- 14: a switch between the ends is born already
+unfoldable pub bornBetween : (ℕ → Bool) → Bool → List ℕ → ℕ → Bool
+bornBetween isBorn isFirst e k = not isFirst && (isNew isFirst (length e) k && isBorn (at e k))
 
-  unfoldable pub rootEnd : Bool
-  rootEnd = eqb (at e 0) (net .root) || eqb (at e (pred (length e))) (net .root)
+-- x is still unborn after the ear
+abbrev pub unborn : (ℕ → Bool) → List ℕ → ℕ → Bool
+unborn isBorn e x = not (isBorn x || holds e x)
 
-  unfoldable pub lastMisplaced : ℕ → Bool
-  lastMisplaced k = isNew isFirst (length e) k && (eqb (at e k) (net .last) && (otherNew k || (otherUnborn || rootEnd)))
+-- 15: last is new here, and another switch is new here, or another is still unborn after the ear, or an end is root
+unfoldable pub otherNew : Bool → ℕ → ℕ → Bool
+otherNew isFirst c k = any (λ j. isNew isFirst c j && not (eqb j k)) c
 
-  -- 16: a new switch other than last keeps no unborn neighbour
-  unfoldable pub noneUnborn : ℕ → Bool
-  noneUnborn k = isNew isFirst (length e) k && (not (eqb (at e k) (net .last)) && not (any (λ x. joined net (at e k) x && unborn x) (net .n)))
+unfoldable pub otherUnborn : ℕ → ℕ → (ℕ → Bool) → List ℕ → Bool
+otherUnborn n last isBorn e = any (λ x. not (eqb x last) && unborn isBorn e x) n
 
-  unfoldable pub verdict : Answer
-  verdict =
-      check 7 1 wrongLength
-      (check 8 (length e) tooLarge
-      (check 9 (length e) repeated
-      (check 10 (pred (length e)) notJoined
-      (check 11 (pred (length e)) usedAlready
-      (check 12 1 wrongCycle
-      (check 13 (length e) unbornEnd
-      (check 14 (length e) bornBetween
-      (check 15 (length e) lastMisplaced
-      (check 16 (length e) noneUnborn
-      (given (newCount isFirst (length e) ∷ [])))))))))))
+unfoldable pub rootEnd : ℕ → List ℕ → Bool
+rootEnd root e = eqb (at e 0) root || eqb (at e (pred (length e))) root
+
+unfoldable pub lastMisplaced : ℕ → ℕ → ℕ → (ℕ → Bool) → Bool → List ℕ → ℕ → Bool
+lastMisplaced n root last isBorn isFirst e k =
+    isNew isFirst (length e) k && (eqb (at e k) last && (otherNew isFirst (length e) k || (otherUnborn n last isBorn e || rootEnd root e)))
+
+-- 16: a new switch other than last keeps no unborn neighbour
+unfoldable pub noneUnborn : Network → (ℕ → Bool) → Bool → List ℕ → ℕ → Bool
+noneUnborn net isBorn isFirst e k =
+    isNew isFirst (length e) k && (not (eqb (at e k) (net .last)) && not (any (λ x. joined net (at e k) x && unborn isBorn e x) (net .n)))
+
+-- the checks of the ear e
+unfoldable pub earChecks : Network → (ℕ → Bool) → (ℕ → Bool) → Bool → List ℕ → List Check
+earChecks net isBorn isUsed isFirst e =
+    (7, 1, wrongLength (net .n) isFirst e)
+    ∷ (8, length e, tooLarge (net .n) e)
+    ∷ (9, length e, repeated e)
+    ∷ (10, pred (length e), notJoined net e)
+    ∷ (11, pred (length e), usedAlready net isUsed e)
+    ∷ (12, 1, wrongCycle (net .root) (net .first) isFirst e)
+    ∷ (13, length e, unbornEnd isBorn isFirst e)
+    ∷ (14, length e, bornBetween isBorn isFirst e)
+    ∷ (15, length e, lastMisplaced (net .n) (net .root) (net .last) isBorn isFirst e)
+    ∷ (16, length e, noneUnborn net isBorn isFirst e)
+    ∷ []
+
+-- the order in which they are asked: that of their numbers, but 14 directly after 10 (document 02, Note 3)
+abbrev pub checkOrder : List ℕ
+checkOrder = 7 ∷ 8 ∷ 9 ∷ 10 ∷ 14 ∷ 11 ∷ 12 ∷ 13 ∷ 15 ∷ 16 ∷ []
+
+-- what the ear e is answered by the checks of these numbers, one after another: a refusal, or the number of its new switches
+unfoldable pub verdictBy : List ℕ → Network → (ℕ → Bool) → (ℕ → Bool) → Bool → List ℕ → Answer
+verdictBy nums net isBorn isUsed isFirst e = checked (earChecks net isBorn isUsed isFirst e) nums (given (newCount isFirst (length e) ∷ []))
+
+abbrev pub verdict : Network → (ℕ → Bool) → (ℕ → Bool) → Bool → List ℕ → Answer
+verdict = verdictBy checkOrder
 
 -- offering the ear e after the accepted ears es
 unfoldable pub judge : Network → Ears → List ℕ → Answer

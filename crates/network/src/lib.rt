@@ -6,9 +6,9 @@ ghost use Prim.Native.Nat.{suc, min, _+_, _*_, _/_, _≤_, _<_};
 ghost use lib.Dec.{eqb};
 ghost use lib.ListN.{length};
 ghost use Rattle.mondschein.specs.Network.{low, size, joins, joined, linkOf};
-ghost use Rattle.mondschein.specs.Judge.{linkTooLarge, selfLink, repeatedLink, wrongNames};
+ghost use Rattle.mondschein.specs.Judge.{loadingBy, linkTooLarge, selfLink, repeatedLink, wrongNames};
 ghost use Rattle.network.specs.Index.{farEnd, IndexedFrom, Indexed, Cleared};
-ghost use Rattle.network.specs.Load.{networkOf, tableOf, loadAnswer, nameChecks, tableChecks};
+ghost use Rattle.network.specs.Load.{networkOf, tableOf, loadAnswer, nameOrder, tableOrder};
 
 // Document 01's limits of N and of M.
 pub const MAX_SWITCHES: u16 = 1024;
@@ -276,7 +276,7 @@ fn joined(links: &[u16], index: &[u16], a: u16, b: u16) -> bool
 // Checks 5 and 6, in number order.
 fn check_names(n: u16, links: &[u16], index: &[u16], root: u16, first: u16, last: u16) -> Load
     requires { ⌜ (length (now links) ≤ 8193) × Indexed (tableOf (now links)) (now index) ⌝ }
-    ensures { λ r. ⌜ loadAnswer r ≡ nameChecks (networkOf n (now (links .entry)) root first last) ⌝ }
+    ensures { λ r. ⌜ loadAnswer r ≡ loadingBy nameOrder (networkOf n (now (links .entry)) root first last) ⌝ }
 {
     if wrong_names(n, root, first, last) {
         return Load::Refused(5, 0);
@@ -293,7 +293,7 @@ fn check_names(n: u16, links: &[u16], index: &[u16], root: u16, first: u16, last
 // Checks 2 to 6, in number order: the first refusal, or N and M. At most 4,096 links, so that each place fits.
 pub fn check_table(n: u16, links: &[u16], index: &[u16], root: u16, first: u16, last: u16) -> Load
     requires { ⌜ (length (now links) ≤ 8193) × Indexed (tableOf (now links)) (now index) ⌝ }
-    ensures { λ r. ⌜ loadAnswer r ≡ tableChecks (networkOf n (now (links .entry)) root first last) ⌝ }
+    ensures { λ r. ⌜ loadAnswer r ≡ loadingBy tableOrder (networkOf n (now (links .entry)) root first last) ⌝ }
 {
     let m = links.len() / 2;
     let large = first_link_too_large(n, links);

@@ -1,8 +1,8 @@
--- Laws of rows in the code's terms: what an entry's comparison says of a mark, a row filled with one number, and positions.
--- What `least` bounds is in Prefixes.antt.
-use mathlib.Core.Path.{_≡_, ap, ap₂, _∙_, subst}
+-- Laws of rows in the code's terms: what an entry's comparison says of a mark, one mark more, a row filled with one number, and
+-- positions. What `least` bounds is in Prefixes.antt.
+use mathlib.Core.Path.{_≡_, sym, ap, ap₂, _∙_, subst}
 use mathlib.Core.Logic.{_≢_, ⊎-elim}
-use mathlib.Core.Bool.{true, false}
+use mathlib.Core.Bool.{Bool, true, false, _||_, cond, or-true, or-false}
 use mathlib.Core.List.{List, _++_, append-nil}
 use Prim.Native.Nat.{ℕ, _+_, _≤_, _<_}
 use native.Mathlib.Omega.{arith}
@@ -20,6 +20,11 @@ marked-hit q h = lt-ltb _ _ (subst (λ (z : ℕ). 0 < z) q h)
 
 pub marked-miss : {r mark : ℕ} → r ≡ mark → r ≤ 0 → ltb 0 mark ≡ false
 marked-miss q h = le-ltb _ _ (subst (λ (z : ℕ). z ≤ 0) q h)
+
+-- one mark more
+pub mark-or : (b : Bool) (x : ℕ) → ltb 0 (cond b 1 x) ≡ (ltb 0 x || b)
+mark-or true x = sym (or-true (ltb 0 x))
+mark-or false x = sym (or-false (ltb 0 x))
 
 -- a row that is full of x
 pub filled : (row : List ℕ) (x v : ℕ) → v ≡ length row → replicate v x ++ drop v row ≡ replicate (length row) x

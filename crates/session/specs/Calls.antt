@@ -6,7 +6,7 @@ use Rattle.mondschein.specs.Outcome.{Outcome}
 use Rattle.machine.specs.Machine.{Call, load, ear, ears, close, clear}
 use Rattle.network.specs.Load.{loadAnswer}
 use Rattle.judge.specs.Ear.{earAnswer}
-use Rattle.tables.specs.Tables.{closeAnswer}
+use Rattle.closing.specs.Closing.{closeAnswer}
 use Rattle.in_place.specs.declared.Session.{Session}
 use Rattle.in_place.specs.Session.{loadedBy, offeredBy, listedBy, closedBy, clearedBy}
 use Rattle.offering.specs.Offering.{earsAnswer}

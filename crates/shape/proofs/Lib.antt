@@ -1,3 +1,4 @@
 pub mod Tests
 pub mod Shape
 pub mod Marks
+pub mod Between

@@ -1,23 +1,22 @@
--- Checks 7 to 11 in the code's terms: the length, the numbers that the searches give, and the tests over neighbours.
--- `past-7` and the laws of mondschein's checks compose to the answer.
-use mathlib.Core.Path.{_≡_, sym, ap, _∙_}
-use mathlib.Core.Bool.{Bool, true, false, not, _||_, cond}
-use mathlib.Core.List.{List, []}
+-- The checks up to 11 in the code's terms: one law for each way that the code answers.
+-- 10, 14 and 11 stand apart, as in the code; the three before them lead to them.
+use mathlib.Core.Path.{_≡_, sym, ap, fun-ext, _∙_}
+use mathlib.Core.Bool.{Bool, true, false, not, _&&_, _||_, cond}
+use mathlib.Core.List.{List, [], _∷_}
 use Prim.Native.Nat.{ℕ, pred, _+_, _≤_, _<_}
 use native.Mathlib.Omega.{arith}
 use native.Mathlib.Numerals.{add-one}
-use lib.Dec.{ltb}
+use lib.Dec.{eqb, ltb, leb}
 use lib.ListN.{length}
-use borrow.Author.Tests.{ltb-false, lt-ltb, le-ltb}
-use Rattle.mondschein.specs.Network.{low, Network, at, size, former, latter, joins, joined, linkOf, newCount}
-use Rattle.mondschein.specs.Judge.{Answer, given, refused, check, wrongLength, tooLarge, repeated, notJoined, usedAlready}
+use borrow.Author.Tests.{lt-ltb, le-ltb}
+use Rattle.mondschein.specs.Network.{low, any, at, size, former, latter, joins, joined, linkOf, isNew, newCount}
+use Rattle.mondschein.specs.Judge.{Answer, given, refused, check, checked, numbered, earChecks, wrongLength, tooLarge, repeated, notJoined, bornBetween, usedAlready, verdictBy}
 use Rattle.mondschein.proofs.Logic.{or-left, true-or, or-false, false-or}
-use Rattle.mondschein.proofs.Search.{low-ext}
-use Rattle.mondschein.proofs.Checks.{check-given, check-pass, check-fail}
+use Rattle.mondschein.proofs.Search.{low-is, low-ext, low-none}
+use Rattle.mondschein.proofs.Checks.{Clear, check-pass, check-hit, check-miss, check-fail}
 use Rattle.network.specs.Load.{networkOf, tableOf}
 use Rattle.rows.specs.Rows.{marked}
-use Rattle.shape.specs.Shape.{shapeChecks}
-use Rattle.shape.proofs.Tests.{either-miss, either-second}
+use Rattle.shape.specs.Shape.{linkOrder, LinkAnswer, shapeOrder, ShapeAnswer}
 
 pub least-two : (b : Bool) → 2 ≤ cond b 3 2
 least-two true = omega arith
@@ -31,105 +30,97 @@ pub new-later : (b : Bool) (c : ℕ) → b ≡ false → newCount b c ≡ pred (
 unfolding newCount
 new-later b c h = rw h
 
-module _ (n : ℕ) (links used : List ℕ) (b : Bool) (e : List ℕ) (after : Answer) where
-  too-short : length e < cond b 3 2 → wrongLength (networkOf n links 0 0 0) (marked []) (marked used) b e 0 ≡ true
-  unfolding wrongLength
-  too-short h = or-left _ _ (lt-ltb _ _ h)
+-- 14 is asked of a later ear only, and there between the ends
+module _ (isBorn : ℕ → Bool) (b : Bool) (e : List ℕ) where
+  pub first-14 : b ≡ true → length e ≡ low (bornBetween isBorn b e) (length e)
+  unfolding bornBetween
+  first-14 t = sym (low-none (bornBetween isBorn b e) (length e) (λ k l. rw t))
 
-  too-long : n < length e → wrongLength (networkOf n links 0 0 0) (marked []) (marked used) b e 0 ≡ true
-  unfolding wrongLength
-  too-long h = true-or (ltb (length e) (cond b 3 2)) _ (lt-ltb n (length e) h)
+  pub later-14 : b ≡ false → low (λ k. isNew false (length e) k && isBorn (at e k)) (length e) ≡ low (bornBetween isBorn b e) (length e)
+  unfolding bornBetween
+  later-14 f = rw f
 
-  pub short-7 : length e < cond b 3 2 → shapeChecks (networkOf n links 0 0 0) (marked []) (marked used) b e after ≡ refused 7 0
-  unfolding shapeChecks
-  short-7 h = check-fail 7 _ _ (too-short h)
-
-  pub long-7 : n < length e → shapeChecks (networkOf n links 0 0 0) (marked []) (marked used) b e after ≡ refused 7 0
-  unfolding shapeChecks
-  long-7 h = check-fail 7 _ _ (too-long h)
-
-  -- what is left after 7
-  abbrev from8 : Answer
-  from8 =
-      check 8 (length e) (tooLarge (networkOf n links 0 0 0) (marked []) (marked used) b e)
-      (check 9 (length e) (repeated (networkOf n links 0 0 0) (marked []) (marked used) b e)
-      (check 10 (pred (length e)) (notJoined (networkOf n links 0 0 0) (marked []) (marked used) b e)
-      (check 11 (pred (length e)) (usedAlready (networkOf n links 0 0 0) (marked []) (marked used) b e) after)))
-
-  pub past-7 : cond b 3 2 ≤ length e → length e ≤ n → shapeChecks (networkOf n links 0 0 0) (marked []) (marked used) b e after ≡ from8
-  unfolding shapeChecks wrongLength
-  past-7 h l = check-pass 7 1 _ _ (λ k _. false-or _ _ (le-ltb _ _ h) (le-ltb _ _ l))
-
--- the numbers at k and after it are not joined
-abbrev apart : List ℕ → List ℕ → ℕ → Bool
-apart links e k = not (joined (tableOf links) (at e k) (at e (k + 1)))
+-- the numbers at k and `next k` are not joined; next is the code's `k + 1` or the checks' `suc k`
+abbrev apartBy : (ℕ → ℕ) → List ℕ → List ℕ → ℕ → Bool
+apartBy next links e k = not (joined (tableOf links) (at e k) (at e (next k)))
 
 -- their link is used
-abbrev linkUsed : List ℕ → List ℕ → List ℕ → ℕ → Bool
-linkUsed links used e k = marked used (linkOf (tableOf links) (at e k) (at e (k + 1)))
+abbrev usedBy : (ℕ → ℕ) → List ℕ → List ℕ → List ℕ → ℕ → Bool
+usedBy next links used e k = marked used (linkOf (tableOf links) (at e k) (at e (next k)))
 
--- they have no link, or a used one
+-- the number at k is not joined to the next; it has no link to it, or a used one
+abbrev pub apart : List ℕ → List ℕ → ℕ → Bool
+apart = apartBy (λ k. k + 1)
+
 abbrev pub notFree : List ℕ → List ℕ → List ℕ → ℕ → Bool
-notFree links used e k = apart links e k || linkUsed links used e k
+notFree links used e k = apart links e k || usedBy (λ j. j + 1) links used e k
 
-module _ (n : ℕ) (links used : List ℕ) (b : Bool) (e : List ℕ) where
-  -- the tests of 10 and 11 ask for the next number
-  next-10 : (k : ℕ) → apart links e k ≡ notJoined (networkOf n links 0 0 0) (marked []) (marked used) b e k
-  unfolding notJoined joined joins former latter size
-  next-10 k = ap (λ (j : ℕ). not (joined (tableOf links) (at e k) (at e j))) (add-one k)
+-- 10 finds nothing: no number is apart from the next, or none has a link that is not free
+module _ (links e : List ℕ) {r : ℕ} (h : pred (length e) ≤ r) where
+  pub none-apart : r ≡ low (apart links e) (pred (length e)) → Clear (pred (length e)) (apart links e)
+  none-apart q k l = low-is (apart links e) (pred (length e)) .before k (omega arith)
 
-  next-11 : (k : ℕ) → linkUsed links used e k ≡ usedAlready (networkOf n links 0 0 0) (marked []) (marked used) b e k
-  unfolding usedAlready linkOf joins former latter size
-  next-11 k = ap (λ (j : ℕ). marked used (linkOf (tableOf links) (at e k) (at e j))) (add-one k)
+  pub all-free : (used : List ℕ) → r ≡ low (notFree links used e) (pred (length e)) → Clear (pred (length e)) (apart links e)
+  all-free used q k l = or-false (apart links e k) _ (low-is (notFree links used e) (pred (length e)) .before k (omega arith)) .0
 
-  -- 10: the first number that is not joined to the next
-  pub first-10 : low (apart links e) (pred (length e)) ≡ low (notJoined (networkOf n links 0 0 0) (marked []) (marked used) b e) (pred (length e))
-  first-10 = low-ext _ _ (pred (length e)) (λ k _. next-10 k)
+module _ (links births used : List ℕ) (b : Bool) (e : List ℕ) where
+  -- 10, 14 and 11 ask of the network its links alone
+  abbrev linkChecks : (ℕ → ℕ) → Answer
+  linkChecks next =
+      check 10 (pred (length e)) (apartBy next links e)
+      (check 14 (length e) (bornBetween (marked births) b e)
+      (check 11 (pred (length e)) (usedBy next links used e)
+      (given (newCount b (length e) ∷ []))))
 
-  module _ {r : ℕ} where
-    -- 11, where all are joined: the first number whose link to the next is not free
-    pub first-11 : r ≡ low (apart links e) (pred (length e)) → pred (length e) ≤ r
-        → low (notFree links used e) (pred (length e)) ≡ low (usedAlready (networkOf n links 0 0 0) (marked []) (marked used) b e) (pred (length e))
-    first-11 q h = either-second (apart links e) (linkUsed links used e) (pred (length e)) q h ∙ low-ext _ _ (pred (length e)) (λ k _. next-11 k)
+  link-answer : {a : Answer} → linkChecks (λ k. k + 1) ≡ a → LinkAnswer links births used b e a
+  unfolding verdictBy checked numbered earChecks notJoined usedAlready joined linkOf joins former latter size
+  link-answer q n root first last = sym q ∙ ap linkChecks (fun-ext add-one)
 
-    -- both pass where there is no such number
-    pub past-11 : (after : Answer) → r ≡ low (notFree links used e) (pred (length e)) → pred (length e) ≤ r
-        → check 10 (pred (length e)) (notJoined (networkOf n links 0 0 0) (marked []) (marked used) b e)
-        (check 11 (pred (length e)) (usedAlready (networkOf n links 0 0 0) (marked []) (marked used) b e) after)
-        ≡ after
-    past-11 after q h =
-        let free = either-miss (apart links e) (linkUsed links used e) (pred (length e)) q h in
-        check-pass 10 _ _ _ (λ k l. sym (next-10 k) ∙ free k l .0) ∙ check-pass 11 _ _ _ (λ k l. sym (next-11 k) ∙ free k l .1)
+  pub links-10 : {r : ℕ} → r ≡ low (apart links e) (pred (length e)) → r < pred (length e) → LinkAnswer links births used b e (refused 10 r)
+  links-10 q l = link-answer (check-hit 10 _ _ _ q l)
 
--- a check answers alike whatever comes after, unless that is asked
-check-swap : (num c : ℕ) (bad : ℕ → Bool) (a a′ ans : Answer) → (a ≡ ans → a′ ≡ ans) → check num c bad a ≡ ans → check num c bad a′ ≡ ans
-unfolding check
-check-swap num c bad a a′ ans h = go (ltb (low bad c) c)
-  where
-    go : (b : Bool) → cond b (refused num (low bad c)) a ≡ ans → cond b (refused num (low bad c)) a′ ≡ ans
-    go true q = q
-    go false q = h q
+  module _ (clear : Clear (pred (length e)) (apart links e)) {r : ℕ} (born : r ≡ low (bornBetween (marked births) b e) (length e)) where
+    pub links-14 : r < length e → LinkAnswer links births used b e (refused 14 r)
+    links-14 l = link-answer (check-pass 10 _ _ _ clear ∙ check-hit 14 _ _ _ born l)
 
-module _ (net : Network) (isBorn isUsed : ℕ → Bool) (b : Bool) (e vs : List ℕ) (after : Answer) where
-  -- a refusal by shape is the whole answer
-  pub shape-refused : (num place : ℕ) → shapeChecks net isBorn isUsed b e (given vs) ≡ refused num place → shapeChecks net isBorn isUsed b e after ≡ refused num place
-  unfolding shapeChecks
-  shape-refused num place =
-      check-swap 7 _ _ _ _ _ (check-swap 8 _ _ _ _ _ (check-swap 9 _ _ _ _ _ (check-swap 10 _ _ _ _ _ (check-swap 11 _ _ _ _ _
-      (λ q. let z : _≡_ {A = ℕ} 0 1 = cc in absurd (omega arith))))))
+    module _ (none : length e ≤ r) {s : ℕ} (free : s ≡ low (notFree links used e) (pred (length e))) where
+      -- where all are joined, what is not free is used
+      is-used : s ≡ low (usedBy (λ k. k + 1) links used e) (pred (length e))
+      is-used = free ∙ low-ext _ _ (pred (length e)) (λ k l. ap (λ (f : Bool). f || usedBy (λ j. j + 1) links used e k) (clear k l))
 
-  -- else the answer is left to what comes after, and the length is right
-  pub shape-clear : (ws : List ℕ) → shapeChecks net isBorn isUsed b e (given vs) ≡ given ws
-      → (shapeChecks net isBorn isUsed b e after ≡ after) × (cond b 3 2 ≤ length e) × (length e ≤ net .n)
-  unfolding shapeChecks wrongLength
-  shape-clear ws q =
-      let (c7, q7) = check-given _ _ _ _ ws q in
-      let (c8, q8) = check-given _ _ _ _ ws q7 in
-      let (c9, q9) = check-given _ _ _ _ ws q8 in
-      let (c10, q10) = check-given _ _ _ _ ws q9 in
-      let (c11, q11) = check-given _ _ _ _ ws q10 in
-      let (short, long) = or-false (ltb (length e) (cond b 3 2)) _ (c7 0 (omega arith)) in (
-        check-pass _ _ _ _ c7 ∙ check-pass _ _ _ _ c8 ∙ check-pass _ _ _ _ c9 ∙ check-pass _ _ _ _ c10 ∙ check-pass _ _ _ _ c11,
-        ltb-false _ _ short,
-        ltb-false _ _ long,
-      )
+      pub links-11 : s < pred (length e) → LinkAnswer links births used b e (refused 11 s)
+      links-11 l = link-answer (check-pass 10 _ _ _ clear ∙ check-miss 14 _ _ _ born none ∙ check-hit 11 _ _ _ is-used l)
+
+      pub links-given : {count : ℕ} → count ≡ newCount b (length e) → pred (length e) ≤ s → LinkAnswer links births used b e (given (count ∷ []))
+      links-given q l = link-answer (check-pass 10 _ _ _ clear ∙ check-miss 14 _ _ _ born none ∙ check-miss 11 _ _ _ is-used l ∙ ap (λ (k : ℕ). given (k ∷ [])) (sym q))
+
+module _ (n : ℕ) (links births used : List ℕ) (b : Bool) (e : List ℕ) where
+  -- 7 of a short ear, and of a long one
+  pub short-7 : length e < cond b 3 2 → ShapeAnswer links births used b e (refused 7 0) n
+  unfolding verdictBy checked numbered earChecks wrongLength
+  short-7 l root first last = sym (check-fail 7 _ _ (or-left _ _ (lt-ltb _ _ l)))
+
+  pub long-7 : n < length e → ShapeAnswer links births used b e (refused 7 0) n
+  unfolding verdictBy checked numbered earChecks wrongLength
+  long-7 l root first last = sym (check-fail 7 _ _ (true-or (ltb (length e) (cond b 3 2)) _ (lt-ltb n (length e) l)))
+
+  module _ (enough : cond b 3 2 ≤ length e) (fits : length e ≤ n) where
+    -- 8 and 9, then 10, 14 and 11
+    past-7 : (root first last : ℕ)
+        → check 8 (length e) (λ k. leb n (at e k))
+        (check 9 (length e) (λ k. any (λ j. eqb (at e j) (at e k)) k)
+        (verdictBy linkOrder (networkOf n links root first last) (marked births) (marked used) b e))
+        ≡ verdictBy shapeOrder (networkOf n links root first last) (marked births) (marked used) b e
+    unfolding verdictBy checked numbered earChecks wrongLength tooLarge repeated
+    past-7 root first last = sym (check-pass 7 1 _ _ (λ k _. false-or _ _ (le-ltb _ _ enough) (le-ltb _ _ fits)))
+
+    module _ {r : ℕ} (large : r ≡ low (λ k. leb n (at e k)) (length e)) where
+      pub shape-8 : r < length e → ShapeAnswer links births used b e (refused 8 r) n
+      shape-8 l root first last = sym (check-hit 8 _ _ _ large l) ∙ past-7 root first last
+
+      module _ (small : length e ≤ r) {s : ℕ} (twice : s ≡ low (λ k. any (λ j. eqb (at e j) (at e k)) k) (length e)) where
+        pub shape-9 : s < length e → ShapeAnswer links births used b e (refused 9 s) n
+        shape-9 l root first last = sym (check-miss 8 _ _ _ large small ∙ check-hit 9 _ _ _ twice l) ∙ past-7 root first last
+
+        pub shape-links : length e ≤ s → {a : Answer} → LinkAnswer links births used b e a → ShapeAnswer links births used b e a n
+        shape-links l h root first last = h n root first last ∙ sym (check-miss 8 _ _ _ large small ∙ check-miss 9 _ _ _ twice l) ∙ past-7 root first last

@@ -1,13 +1,14 @@
 -- What the contracts over the shape of an ear cite: the marks of its numbers, document 01's values and numbers for each answer to an
--- ear, and checks 7 to 11.
+-- ear, and the part of the order of checks that it is asked.
 use mathlib.Core.Path.{_≡_}
 use mathlib.Core.Bool.{Bool, false}
 use mathlib.Core.List.{List, [], _∷_}
-use Prim.Native.Nat.{ℕ, pred, _<_}
+use Prim.Native.Nat.{ℕ, _<_}
 use lib.Dec.{eqb}
-use lib.ListN.{length}
-use Rattle.mondschein.specs.Network.{Network, any, at}
-use Rattle.mondschein.specs.Judge.{Answer, given, refused, check, wrongLength, tooLarge, repeated, notJoined, usedAlready}
+use lib.ListN.{length, take, drop}
+use Rattle.mondschein.specs.Network.{any, at}
+use Rattle.mondschein.specs.Judge.{Answer, given, refused, checkOrder, verdictBy}
+use Rattle.network.specs.Load.{networkOf}
 use Rattle.rows.specs.Rows.{marked}
 use Rattle.shape.specs.declared.Ear.{Ear}
 use Rattle.shape.specs.declared.Ear.the-variants.{New, Refused}
@@ -25,11 +26,17 @@ abbrev pub earAnswer : Ear → Answer
 earAnswer (New k) = given (k ∷ [])
 earAnswer (Refused num place) = refused num place
 
--- checks 7 to 11, and what comes after them
-unfoldable pub shapeChecks : Network → (ℕ → Bool) → (ℕ → Bool) → Bool → List ℕ → Answer → Answer
-shapeChecks net isBorn isUsed isFirst e after =
-    check 7 1 (wrongLength net isBorn isUsed isFirst e)
-    (check 8 (length e) (tooLarge net isBorn isUsed isFirst e)
-    (check 9 (length e) (repeated net isBorn isUsed isFirst e)
-    (check 10 (pred (length e)) (notJoined net isBorn isUsed isFirst e)
-    (check 11 (pred (length e)) (usedAlready net isBorn isUsed isFirst e) after))))
+-- the numbers of the checks that ask for the shape of an ear: those up to 11, and the last three of them, over its links
+abbrev pub shapeOrder : List ℕ
+shapeOrder = take 6 checkOrder
+
+abbrev pub linkOrder : List ℕ
+linkOrder = drop 3 shapeOrder
+
+-- a is the answer of these checks, whatever they do not ask
+module _ (links births used : List ℕ) (isFirst : Bool) (e : List ℕ) (a : Answer) where
+  abbrev pub LinkAnswer : Type 0
+  LinkAnswer = (n root first last : ℕ) → a ≡ verdictBy linkOrder (networkOf n links root first last) (marked births) (marked used) isFirst e
+
+  abbrev pub ShapeAnswer : ℕ → Type 0
+  ShapeAnswer n = (root first last : ℕ) → a ≡ verdictBy shapeOrder (networkOf n links root first last) (marked births) (marked used) isFirst e

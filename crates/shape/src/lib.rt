@@ -1,17 +1,16 @@
-// The shape of an ear against lent tables: checks 7 to 11, and the marks of an ear's numbers.
-// Used links are lent as marks, 0 for unused.
+// The shape of an ear against lent tables: its checks up to 11, in their order, and the marks of an ear's numbers.
+// Births and used links are lent as marks, 0 for unborn and unused.
 ghost use mathlib.Core.Path.{_≡_};
-ghost use mathlib.Core.Bool.{true, false, not, _||_, cond};
-ghost use mathlib.Core.List.{[], _∷_};
+ghost use mathlib.Core.Bool.{not, _||_, cond};
 ghost use Prim.Native.Nat.{pred, _+_, _≤_};
 ghost use lib.Dec.{eqb, leb};
 ghost use lib.ListN.{length};
 ghost use Rattle.mondschein.specs.Network.{low, any, at, joined, linkOf, newCount};
-ghost use Rattle.mondschein.specs.Judge.{given};
+ghost use Rattle.mondschein.specs.Judge.{bornBetween};
 ghost use Rattle.network.specs.Index.{Indexed};
-ghost use Rattle.network.specs.Load.{networkOf, tableOf};
+ghost use Rattle.network.specs.Load.{tableOf};
 ghost use Rattle.rows.specs.Rows.{marked};
-ghost use Rattle.shape.specs.Shape.{Unmarked, MarksOf, earAnswer, shapeChecks};
+ghost use Rattle.shape.specs.Shape.{Unmarked, MarksOf, earAnswer, LinkAnswer, ShapeAnswer};
 
 // The answer to an ear: the number of new switches, or a refusal's number and place.
 pub enum Ear {
@@ -119,6 +118,36 @@ fn first_not_free(links: &[u16], index: &[u16], used: &[u8], ear: &[u16]) -> usi
     k
 }
 
+// 14, over the part between the ends: the first switch that is born.
+fn first_born(births: &[u16], part: &[u16]) -> usize
+    ensures { λ r. ⌜ r ≡ low (λ k. marked (now (births .entry)) (at (now (part .entry)) k)) (length (now (part .entry))) ⌝ }
+{
+    let mut k = 0;
+    while k < part.len() {
+        if 0 < rows::entry(births, part[k]) {
+            return k;
+        }
+        k += 1;
+    }
+    k
+}
+
+// 14: the first switch between the ends of a later ear that is born, or the length.
+fn first_born_between(births: &[u16], initial: bool, ear: &[u16]) -> usize
+    requires { ⌜ 2 ≤ length (now ear) ⌝ }
+    ensures { λ r. ⌜ r ≡ low (bornBetween (marked (now (births .entry))) initial (now (ear .entry))) (length (now (ear .entry))) ⌝ }
+{
+    let len = ear.len();
+    if initial {
+        return len;
+    }
+    let born = first_born(births, &ear[1..len - 1]);
+    if born < len - 2 {
+        return born + 1;
+    }
+    len
+}
+
 // The fewest numbers of an ear: a cycle has 3, a path 2.
 fn least_length(initial: bool) -> usize
     ensures { λ r. ⌜ r ≡ cond initial 3 2 ⌝ }
@@ -142,17 +171,49 @@ fn new_count(initial: bool, len: u16) -> u16
     len - 2
 }
 
-// Checks 7 to 11: the first refusal, or the number of new switches.
+// Checks 10, 14 and 11, in this order: the first refusal, or the number of new switches.
+fn check_links(
+    links: &[u16],
+    index: &[u16],
+    births: &[u16],
+    used: &[u8],
+    initial: bool,
+    ear: &[u16],
+) -> Ear
+    requires { ⌜ (2 ≤ length (now ear)) × (length (now ear) ≤ 65535) × Indexed (tableOf (now links)) (now index) ⌝ }
+    ensures { λ r. ⌜ LinkAnswer (now (links .entry)) (now (births .entry)) (now (used .entry)) initial (now (ear .entry)) (earAnswer r) ⌝ }
+{
+    let len = ear.len();
+    let pairs = len - 1;
+    let not_free = first_not_free(links, index, used, ear);
+    if not_free < pairs {
+        let apart = first_not_joined(links, index, ear);
+        if apart < pairs {
+            return Ear::Refused(10, apart as u16);
+        }
+    }
+    let born = first_born_between(births, initial, ear);
+    if born < len {
+        return Ear::Refused(14, born as u16);
+    }
+    if not_free < pairs {
+        return Ear::Refused(11, not_free as u16);
+    }
+    Ear::New(new_count(initial, len as u16))
+}
+
+// The checks up to 11, in their order: the first refusal, or the number of new switches.
 pub fn check_shape(
     n: u16,
     links: &[u16],
     index: &[u16],
+    births: &[u16],
     used: &[u8],
     initial: bool,
     ear: &[u16],
 ) -> Ear
     requires { ⌜ Indexed (tableOf (now links)) (now index) ⌝ }
-    ensures { λ r. ⌜ earAnswer r ≡ shapeChecks (networkOf n (now (links .entry)) 0 0 0) (marked []) (marked (now (used .entry))) initial (now (ear .entry)) (given (newCount initial (length (now (ear .entry))) ∷ [])) ⌝ }
+    ensures { λ r. ⌜ ShapeAnswer (now (links .entry)) (now (births .entry)) (now (used .entry)) initial (now (ear .entry)) (earAnswer r) n ⌝ }
 {
     let len = ear.len();
     if len < least_length(initial) {
@@ -169,14 +230,5 @@ pub fn check_shape(
     if twice < len {
         return Ear::Refused(9, twice as u16);
     }
-    let pairs = len - 1;
-    let not_free = first_not_free(links, index, used, ear);
-    if not_free < pairs {
-        let apart = first_not_joined(links, index, ear);
-        if apart < pairs {
-            return Ear::Refused(10, apart as u16);
-        }
-        return Ear::Refused(11, not_free as u16);
-    }
-    Ear::New(new_count(initial, len as u16))
+    check_links(links, index, births, used, initial, ear)
 }

@@ -1,25 +1,17 @@
-// The tables of a session on lent slices: what one accepted ear and an empty one change in them, tree 3, and the check of closing.
+// The tables of a session on lent slices: what one accepted ear changes in them.
 // A number past the end of a table changes nothing.
 ghost use mathlib.Core.Path.{_≡_};
-ghost use mathlib.Core.Bool.{true, false, not, _&&_, cond};
+ghost use mathlib.Core.Bool.{true, false, cond};
 ghost use mathlib.Core.List.{[]};
 ghost use Prim.Native.Nat.{suc, pred, _≤_};
-ghost use lib.Dec.{ltb};
-ghost use lib.ListN.{length, set, take};
-ghost use Rattle.mondschein.specs.Network.{low, at, joined, linkOf};
-ghost use Rattle.mondschein.specs.Judge.{closing};
+ghost use lib.ListN.{length, take};
+ghost use Rattle.mondschein.specs.Network.{at, linkOf};
 ghost use Rattle.mondschein.specs.Order.{between, extend};
 ghost use Rattle.network.specs.Index.{Indexed};
-ghost use Rattle.network.specs.Load.{networkOf, tableOf};
+ghost use Rattle.network.specs.Load.{tableOf};
 ghost use Rattle.order.specs.Placed.{placed, placedCount};
-ghost use Rattle.rows.specs.Rows.{marked};
-ghost use Rattle.tables.specs.Tables.{assigned, usedAfter, longsAfter, birthsAfter, neighbours, tree1After, tree2After, tablesOf, afterEar, usedAfterEmpty, TakesShort, tree3Of, closeAnswer};
-
-// The answer to close: closed, or a refusal's number and place.
-pub enum Close {
-    Closed,
-    Refused(u8, u16),
-}
+ghost use Rattle.rows.specs.Rows.{assigned};
+ghost use Rattle.tables.specs.Tables.{usedAfter, longsAfter, birthsAfter, neighbours, tree1After, tree2After, tablesOf, afterEar, TakesShort};
 
 // Marks the links between two neighbours of the ear.
 fn mark_along(links: &[u16], index: &[u16], ear: &[u16], used: &mut [u8])
@@ -198,90 +190,4 @@ pub fn accept_short(link: usize, born: u16, used: &mut [u8], order: &[u16]) -> u
 {
     rows::mark(used, link);
     order::same_count(order, born)
-}
-
-// Link l from a to b is used, where it was unused and both are born.
-fn take_link(l: usize, a: u16, b: u16, births: &[u16], used: &mut [u8])
-    ensures { λ _. ⌜ now (used .exit) ≡ set (now (used .entry)) l (cond (not (marked (now (used .entry)) l) && (marked (now (births .entry)) a && marked (now (births .entry)) b)) 1 (at (now (used .entry)) l)) ⌝ }
-{
-    if rows::mark_at(used, l) != 0 {
-        return;
-    }
-    if rows::entry(births, a) == 0 {
-        return;
-    }
-    if rows::entry(births, b) == 0 {
-        return;
-    }
-    rows::mark(used, l);
-}
-
-// An empty ear: the leftover links are used, by one scan of the links.
-pub fn take_left_over(links: &[u16], births: &[u16], used: &mut [u8])
-    ensures { λ _. ⌜ now (used .exit) ≡ usedAfterEmpty (tableOf (now (links .entry))) (now (births .entry)) (now (used .entry)) ⌝ }
-{
-    let m = links.len() / 2;
-    let mut l = 0;
-    while l < m {
-        take_link(l, links[2 * l], links[2 * l + 1], births, used);
-        l += 1;
-    }
-}
-
-// 23: closed, or the lowest unused link. At most 4,096 links, so that its place fits.
-pub fn check_used(links: &[u16], used: &[u8]) -> Close
-    requires { ⌜ length (now links) ≤ 8193 ⌝ }
-    ensures { λ r. ⌜ closeAnswer r ≡ closing (tableOf (now (links .entry))) (marked (now (used .entry))) ⌝ }
-{
-    let m = links.len() / 2;
-    let mut i = 0;
-    while i < m {
-        if rows::mark_at(used, i) == 0 {
-            return Close::Refused(23, i as u16);
-        }
-        i += 1;
-    }
-    Close::Closed
-}
-
-// The entry of a is b, where b is lower and born later than a.
-fn lower(row: &mut [u16], births: &[u16], a: u16, b: u16)
-    ensures { λ _. ⌜ now (row .exit) ≡ set (now (row .entry)) a (cond (ltb (at (now (births .entry)) a) (at (now (births .entry)) b) && ltb b (at (now (row .entry)) a)) b (at (now (row .entry)) a)) ⌝ }
-{
-    let i = a as usize;
-    if row.len() <= i {
-        return;
-    }
-    if rows::entry(births, b) <= rows::entry(births, a) {
-        return;
-    }
-    if row[i] <= b {
-        return;
-    }
-    row[i] = b;
-}
-
-// The lowest neighbour below n that is born later, for each switch, or n: one scan of the links.
-fn set_lowest(row: &mut [u16], n: u16, links: &[u16], births: &[u16])
-    ensures { λ _. ⌜ now (row .exit) ≡ assigned (now (row .entry)) (λ v. v) (λ v. low (λ x. joined (tableOf (now (links .entry))) v x && ltb (at (now (births .entry)) v) (at (now (births .entry)) x)) n) (length (now (row .entry))) ⌝ }
-{
-    let m = links.len() / 2;
-    rows::fill(row, n);
-    let mut i = 0;
-    while i < m {
-        let a = links[2 * i];
-        let b = links[2 * i + 1];
-        lower(row, births, a, b);
-        lower(row, births, b, a);
-        i += 1;
-    }
-}
-
-// Tree 3: root for last and for the root itself, and for any other switch its lowest neighbour born later.
-pub fn set_tree3(row: &mut [u16], n: u16, links: &[u16], root: u16, last: u16, births: &[u16])
-    ensures { λ _. ⌜ now (row .exit) ≡ tree3Of (networkOf n (now (links .entry)) root 0 last) (now (births .entry)) (now (row .entry)) ⌝ }
-{
-    set_lowest(row, n, links, births);
-    rows::store(row, last, root);
-    rows::store(row, root, root);
 }

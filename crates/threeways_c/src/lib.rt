@@ -1,5 +1,6 @@
 // The calls of a session for C, over the numbers and the arrays of struct threeways_session (include/threeways.h), lent one by one.
 // Each is the call in place, for any contents of that memory; arrays of other lengths than the struct's are refused with 255.
+use closing::Close;
 use judge::Ear;
 use memory::CLOSED;
 use memory::LENGTHS;
@@ -9,7 +10,6 @@ use memory::ROW;
 use memory::Refusal;
 use network::Load;
 use offering::EarList;
-use tables::Close;
 use walks::Parent;
 use walks::Walk;
 ghost use Rattle.network.specs.Load.{networkOf};

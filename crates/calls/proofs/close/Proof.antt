@@ -2,7 +2,7 @@ use mathlib.Core.Path.{ap, _∙_}
 use mathlib.Core.List.{List, []}
 use Prim.Native.Nat.{ℕ}
 use Rattle.mondschein.specs.Outcome.{Outcome}
-use Rattle.tables.specs.Tables.{closeAnswer}
+use Rattle.closing.specs.Closing.{closeAnswer}
 use Rattle.in_place.specs.declared.Session.{Session}
 use Rattle.in_place.specs.InPlace.{sessionIn}
 use Rattle.in_place.proofs.Stores.{closed-m}

@@ -1,6 +1,6 @@
 use mathlib.Core.Path.{ap}
-use Rattle.tables.specs.declared.Close.{Close}
-use Rattle.tables.specs.Tables.{closeAnswer}
+use Rattle.closing.specs.declared.Close.{Close}
+use Rattle.closing.specs.Closing.{closeAnswer}
 use Rattle.replies.specs.Replies.{closed}
 use Rattle.collect.specs.Dialogue.{replyTo}
 use Rattle.calls.proofs.Replying.{printed-as}

@@ -2,7 +2,7 @@ use mathlib.Core.Path.{sym, ap, _∙_, refl}
 use mathlib.Core.List.{List}
 use Prim.Native.Nat.{ℕ}
 use Rattle.mondschein.specs.Outcome.{Outcome, settle}
-use Rattle.tables.specs.Tables.{closeAnswer}
+use Rattle.closing.specs.Closing.{closeAnswer}
 use Rattle.in_place.specs.declared.Session.{Session}
 use Rattle.in_place.specs.declared.ClosedIn.{ClosedIn}
 use Rattle.in_place.specs.Session.{closedBy}

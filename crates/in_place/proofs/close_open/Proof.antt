@@ -4,7 +4,7 @@ use Prim.Native.Nat.{ℕ, _≤_}
 use native.Mathlib.Omega.{arith}
 use lib.ListN.{length, take}
 use Rattle.mondschein.specs.Outcome.{Outcome}
-use Rattle.tables.specs.Tables.{closeAnswer}
+use Rattle.closing.specs.Closing.{closeAnswer}
 use Rattle.in_place.specs.declared.Session.{Session}
 use Rattle.in_place.specs.declared.ClosedIn.{ClosedIn}
 use Rattle.in_place.specs.Session.{closedWith}

@@ -1,10 +1,5 @@
-use mathlib.Core.Path.{sym, _∙_}
-use mathlib.Core.List.{[]}
-use Rattle.mondschein.proofs.Checks.{check-hit, check-miss}
-use Rattle.network.specs.Load.{networkOf}
-use Rattle.rows.specs.Rows.{marked}
-use Rattle.judge.proofs.Last.{first-15}
-use Rattle.judge.proofs.Answers.{first-12-root, first-12-first, first-past}
+use native.Mathlib.Omega.{arith}
+use Rattle.judge.proofs.Answers.{first-12-root, first-12-first, first-15, first-16, first-given}
 use borrow.Author.Needs.{needs}
 use Rattle.judge.proofs.check_first.Statement.{statement}
 use Rattle.judge.proofs.check_first.Tie as tie
@@ -19,7 +14,7 @@ shared-slice-read-if1 c = search needs
 returns : tie.Need-returns
 returns c =
     let a = c .before .before .before .before .before .before .args in
-    sym (first-12-root (a .n) (a .links .now) (a .root) (a .first) (a .last) (a .births .now) (a .ear .now) (c .if1 .taken))
+    first-12-root (a .n) (a .links .now) (a .root) (a .first) (a .last) (a .births .now) (a .ear .now) (c .if1 .taken)
 
 sub-if2 : tie.Need-sub-if2
 sub-if2 c = search needs
@@ -33,7 +28,7 @@ shared-slice-read-if2 c = search needs
 returns-2 : tie.Need-returns-2
 returns-2 c =
     let a = before-else1 (c .before .before) .args in
-    sym (first-12-first (a .n) (a .links .now) (a .root) (a .first) (a .last) (a .births .now) (a .ear .now) (c .if2 .taken))
+    first-12-first (a .n) (a .links .now) (a .root) (a .first) (a .last) (a .births .now) (a .ear .now) (c .if2 .taken)
 
 position-of-requires : tie.Need-position-of-requires
 position-of-requires c κs = search needs
@@ -48,12 +43,8 @@ returns-3 c =
     let at-if1 = at-if2 .before .before in
     let start = before-else1 at-if1 in
     let a = start .args in
-    sym
-    (first-past (a .n) (a .links .now) (a .root) (a .first) (a .last) (a .births .now) (a .ear .now) (at-if1 .if1 .left) (at-if2 .if2 .left)
-    ∙ check-hit 15 _ _ _
-    (at-position-of .position-of .ensures
-    ∙ first-15 (networkOf (a .n) (a .links .now) (a .root) (a .first) (a .last)) (marked (a .births .now)) (marked []) (a .ear .now) (start .pre .0))
-    (c .if3 .taken))
+    first-15 (a .n) (a .links .now) (a .root) (a .first) (a .last) (a .births .now) (a .ear .now) (start .pre .0) (at-if1 .if1 .left) (at-if2 .if2 .left)
+    (at-position-of .position-of .ensures) (c .if3 .taken)
 
 first-cut-off-requires : tie.Need-first-cut-off-requires
 first-cut-off-requires c κs = search needs
@@ -70,13 +61,8 @@ returns-4 c =
     let at-if1 = at-if2 .before .before in
     let start = before-else1 at-if1 in
     let a = start .args in
-    sym
-    (first-past (a .n) (a .links .now) (a .root) (a .first) (a .last) (a .births .now) (a .ear .now) (at-if1 .if1 .left) (at-if2 .if2 .left)
-    ∙ check-miss 15 _ _ _
-    (at-position-of .position-of .ensures
-    ∙ first-15 (networkOf (a .n) (a .links .now) (a .root) (a .first) (a .last)) (marked (a .births .now)) (marked []) (a .ear .now) (start .pre .0))
-    (at-if3 .if3 .left)
-    ∙ check-hit 16 _ _ _ (at-first-cut-off .first-cut-off .ensures) (c .if4 .taken))
+    first-16 (a .n) (a .links .now) (a .root) (a .first) (a .last) (a .births .now) (a .ear .now) (start .pre .0) (at-if1 .if1 .left) (at-if2 .if2 .left)
+    (at-position-of .position-of .ensures) (at-if3 .if3 .left) (at-first-cut-off .first-cut-off .ensures) (omega arith)
 
 cast-t13 : tie.Need-cast-t13
 cast-t13 c = search needs
@@ -90,13 +76,8 @@ returns-5 c =
     let at-if1 = at-if2 .before .before in
     let start = before-else1 at-if1 in
     let a = start .args in
-    sym
-    (first-past (a .n) (a .links .now) (a .root) (a .first) (a .last) (a .births .now) (a .ear .now) (at-if1 .if1 .left) (at-if2 .if2 .left)
-    ∙ check-miss 15 _ _ _
-    (at-position-of .position-of .ensures
-    ∙ first-15 (networkOf (a .n) (a .links .now) (a .root) (a .first) (a .last)) (marked (a .births .now)) (marked []) (a .ear .now) (start .pre .0))
-    (at-if3 .if3 .left)
-    ∙ check-miss 16 _ _ _ (at-first-cut-off .first-cut-off .ensures) (c .if4 .left))
+    first-given (a .n) (a .links .now) (a .root) (a .first) (a .last) (a .births .now) (a .ear .now) (start .pre .0) (at-if1 .if1 .left) (at-if2 .if2 .left)
+    (at-position-of .position-of .ensures) (at-if3 .if3 .left) (at-first-cut-off .first-cut-off .ensures) (omega arith)
 
 pub check-first-spec : {M : Type 1} → statement M
 check-first-spec =

@@ -2,8 +2,7 @@ use mathlib.Core.Path.{sym, _∙_}
 use native.Mathlib.Omega.{arith}
 use borrow.Author.Needs.{needs}
 use Rattle.mondschein.specs.Network.{size, former, latter, joins}
-use Rattle.mondschein.specs.Judge.{linkTooLarge, selfLink, repeatedLink}
-use Rattle.network.specs.Load.{tableChecks}
+use Rattle.mondschein.specs.Judge.{checked, numbered, linkTooLarge, selfLink, repeatedLink, loadChecks, loadingBy}
 use Rattle.mondschein.proofs.Checks.{check-hit, check-miss}
 use Rattle.network.proofs.check_table.Statement.{statement}
 use Rattle.network.proofs.check_table.Tie as tie
@@ -15,7 +14,7 @@ cast-t13 : tie.Need-cast-t13
 cast-t13 c = search needs
 
 returns : tie.Need-returns
-unfolding tableChecks linkTooLarge former latter size
+unfolding loadingBy checked numbered loadChecks linkTooLarge former latter size
 returns c = sym (check-hit 2 _ _ _ (c .before .first-link-too-large .ensures) (omega arith))
 
 first-self-link-requires : tie.Need-first-self-link-requires
@@ -25,7 +24,7 @@ cast-t14 : tie.Need-cast-t14
 cast-t14 c = search needs
 
 returns-2 : tie.Need-returns-2
-unfolding tableChecks linkTooLarge selfLink former latter size
+unfolding loadingBy checked numbered loadChecks linkTooLarge selfLink former latter size
 returns-2 c =
     let at-first-self-link = c .before in
     let at-first-link-too-large = at-first-self-link .before .before in
@@ -40,7 +39,7 @@ cast-t15 : tie.Need-cast-t15
 cast-t15 c = search needs
 
 returns-3 : tie.Need-returns-3
-unfolding tableChecks linkTooLarge selfLink repeatedLink joins former latter size
+unfolding loadingBy checked numbered loadChecks linkTooLarge selfLink repeatedLink joins former latter size
 returns-3 c =
     let at-first-repeated-link = c .before in
     let at-first-self-link = at-first-repeated-link .before .before in
@@ -54,7 +53,7 @@ check-names-requires : tie.Need-check-names-requires
 check-names-requires c κs = search needs
 
 returns-4 : tie.Need-returns-4
-unfolding tableChecks linkTooLarge selfLink repeatedLink joins former latter size
+unfolding loadingBy checked numbered loadChecks linkTooLarge selfLink repeatedLink joins former latter size
 returns-4 c =
     let at-first-repeated-link = c .before .before in
     let at-first-self-link = at-first-repeated-link .before .before in

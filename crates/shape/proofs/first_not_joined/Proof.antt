@@ -1,17 +1,17 @@
-use Prim.Native.Nat.{pred, _≤_, _+_, _-_}
+use Prim.Native.Nat.{pred, _≤_, _-_}
 use mathlib.Core.Path.{_≡_, sym, _∙_}
 use lib.ListN.{length}
 use borrow.Author.Needs.{needs}
+use Rattle.shape.proofs.Shape.{apart}
 use Rattle.shape.proofs.Tests.{not-joined-hit, not-joined-miss}
-use Rattle.mondschein.specs.Network.{low, at, joined, size}
+use Rattle.mondschein.specs.Network.{low, size}
 use Rattle.mondschein.proofs.Search.{rest, rest-begin, rest-hit, rest-miss, rest-end}
-use mathlib.Core.Bool.{not}
 use Rattle.network.specs.Load.{tableOf}
 use Rattle.shape.proofs.first_not_joined.Statement.{statement}
 use Rattle.shape.proofs.first_not_joined.Tie as tie
 
 abbrev Inv-loop : tie.InvT-loop
-Inv-loop links index ear m k₀ k = (k ≤ pred (length ear)) × (m ≡ size (tableOf links)) × (low (λ j. not (joined (tableOf links) (at ear j) (at ear (j + 1)))) (pred (length ear)) ≡ rest (λ j. not (joined (tableOf links) (at ear j) (at ear (j + 1)))) (pred (length ear)) k)
+Inv-loop links index ear m k₀ k = (k ≤ pred (length ear)) × (m ≡ size (tableOf links)) × (low (apart links ear) (pred (length ear)) ≡ rest (apart links ear) (pred (length ear)) k)
 
 abbrev μ-loop : tie.MeasureT-loop
 μ-loop links index ear m k₀ k = length ear - k

@@ -5,9 +5,8 @@ use native.Mathlib.Numerals.{add-one}
 use lib.ListN.{length}
 use Rattle.mondschein.specs.Network.{at, linkOf}
 use Rattle.network.specs.Load.{tableOf}
-use Rattle.tables.specs.Tables.{assigned}
-use Rattle.tables.proofs.Assigned.{assigned-length}
-use Rattle.tables.proofs.Steps.{assigned-more}
+use Rattle.rows.specs.Rows.{assigned}
+use Rattle.rows.proofs.Assigned.{assigned-length, assigned-more}
 use borrow.Author.Needs.{needs}
 use Rattle.tables.proofs.mark_along.Statement.{statement}
 use Rattle.tables.proofs.mark_along.Tie as tie

@@ -3,8 +3,8 @@ use mathlib.Core.Bool.{false}
 use mathlib.Core.List.{List}
 use Prim.Native.Nat.{ℕ}
 use lib.ListN.{length}
-use Rattle.tables.specs.declared.Close.{Close}
-use Rattle.tables.specs.Tables.{closeAnswer}
+use Rattle.closing.specs.declared.Close.{Close}
+use Rattle.closing.specs.Closing.{closeAnswer}
 use Rattle.in_place.specs.declared.Session.{Session}
 use Rattle.in_place.specs.declared.State.{State}
 use Rattle.in_place.specs.Session.{closedBy}
