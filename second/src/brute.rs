@@ -1,10 +1,10 @@
-//! Definition 9 of document 000 as document 01 words it, and demand 3, over
-//! whole lists and by trying everything. For small networks; it shares no
-//! code with the judge and knows nothing of refusal numbers.
+//! Definition 9 of document 000 as document 01 words it, and demand 3, over whole lists and by trying everything; and
+//! the cases of document 02, Note 3. It shares no code with the judge and knows nothing of refusal numbers.
 
 use std::collections::HashSet;
 
 use crate::network::Site;
+use crate::seen::Crossed;
 
 /// A pair of switches without a direction.
 type Pair = (u16, u16);
@@ -122,6 +122,28 @@ pub fn written_out(site: &Site, list: &[Vec<u16>]) -> Vec<Vec<u16>> {
         }
     }
     written
+}
+
+/// The place of the first switch between the ends of an ear that is in an ear of the list.
+pub fn crossed_at(list: &[Vec<u16>], ear: &[u16]) -> Option<usize> {
+    (1..ear.len().saturating_sub(1)).find(|&place| birth(list, ear[place]).is_some())
+}
+
+/// Which case of document 02, Note 3, an ear is that is offered after the list; none where it is neither, or no path of
+/// the network.
+pub fn crossed(site: &Site, list: &[Vec<u16>], ear: &[u16]) -> Option<Crossed> {
+    if list.is_empty() || ear.len() < 3 || ear.len() > site.switches as usize {
+        return None;
+    }
+    let pairs = pairs_along(ear);
+    if !all_different(ear) || !pairs.iter().all(|&(a, b)| joined(site, a, b)) {
+        return None;
+    }
+    if (0..list.len()).any(|i| links_of(list, i).iter().any(|link| pairs.contains(link))) {
+        return Some(Crossed::UsedLink);
+    }
+    let end_unborn = [ear[0], ear[ear.len() - 1]].iter().any(|&end| birth(list, end).is_none());
+    (end_unborn && crossed_at(list, ear).is_some()).then_some(Crossed::UnbornEnd)
 }
 
 /// Definition 4, of an ear decomposition.

@@ -7,6 +7,7 @@ use std::path::PathBuf;
 use std::process::{Command, Stdio};
 
 use crate::follow::{follow, Counts};
+use crate::seen::Seen;
 use crate::shrink::shrink;
 use crate::{dialogue, Plant};
 
@@ -123,7 +124,7 @@ pub fn refusals_told(refusals: &BTreeMap<u16, BTreeMap<u16, usize>>) -> String {
 pub fn summary(counts: &Counts) -> String {
     format!(
         "equal: {} scripts, {} lines, {} opened, {} ears taken, {} closed, {} cleared, {} unread; \
-         empty ears: {}; {} lists judged by Definition 9 ({} accepted); \
+         empty ears: {}; crossed ears: {}; {} lists judged by Definition 9 ({} accepted); \
          {} walks, three walks of {} switches and all of {} sites checked; refusals (number:times/places) {}",
         counts.scripts,
         counts.lines,
@@ -132,7 +133,8 @@ pub fn summary(counts: &Counts) -> String {
         counts.closed,
         counts.cleared,
         counts.unread,
-        counts.empty_ears,
+        counts.empty_ears.told(),
+        counts.crossed_ears.told(),
         counts.lists_judged,
         counts.lists_accepted,
         counts.walks,

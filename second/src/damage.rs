@@ -24,7 +24,7 @@ pub fn damaged_ear(random: &mut Random, judge: &Judge, ears: &[Vec<u16>], at: us
             }
         }
     }
-    match random.below(18) {
+    match random.below(19) {
         0 => (0..random.below(3)).map(|_| any(random)).collect(),
         1 => (0..n + random.within(1, 3)).map(|i| (i % n) as u16).collect(),
         2 => {
@@ -90,6 +90,7 @@ pub fn damaged_ear(random: &mut Random, judge: &Judge, ears: &[Vec<u16>], at: us
             ear
         }
         16 => blind_path(random, judge),
+        17 => crossing_path(random, judge),
         _ => {
             let count = random.within(2, n.min(12));
             (0..count).map(|_| any(random)).collect()
@@ -156,6 +157,31 @@ fn blind_path(random: &mut Random, judge: &Judge) -> Vec<u16> {
             break;
         }
         ear.push(next);
+    }
+    ear
+}
+
+/// A path from an unborn switch through a born one, most often over links that are left; blind where there is none.
+fn crossing_path(random: &mut Random, judge: &Judge) -> Vec<u16> {
+    let network = &judge.network;
+    let both_ways = network.table.iter().flat_map(|&(a, b)| [[a, b], [b, a]]);
+    let starts: Vec<[u16; 2]> = both_ways.filter(|two| two.map(|s| judge.is_born(s)) == [false, true]).collect();
+    if starts.is_empty() {
+        return blind_path(random, judge);
+    }
+    let mut ear = random.pick(&starts).to_vec();
+    for _ in 0..random.within(1, 4) {
+        let over_used = random.chance(20);
+        let near = network.neighbours(ear[ear.len() - 1]).iter();
+        let left = near.filter(|other| over_used || !judge.is_used(other.link as usize)).map(|other| other.switch);
+        let ways: Vec<u16> = left.filter(|s| !ear.contains(s)).collect();
+        if ways.is_empty() {
+            break;
+        }
+        ear.push(*random.pick(&ways));
+    }
+    if random.chance(50) {
+        ear.reverse();
     }
     ear
 }

@@ -4,9 +4,9 @@
 use std::collections::BTreeMap;
 
 use crate::brute;
-use crate::empty_ears::EmptyEars;
 use crate::lines::{read_form, Form, LINES, LINE_BYTES};
 use crate::network::{Site, MAX_LINKS};
+use crate::seen::{CrossedEars, EmptyEars, Seen};
 
 /// Networks of up to this many switches are judged by brute force.
 pub const SMALL: u16 = 10;
@@ -19,6 +19,7 @@ pub struct Counts {
     pub opened: usize,
     pub ears: usize,
     pub empty_ears: EmptyEars,
+    pub crossed_ears: CrossedEars,
     pub closed: usize,
     pub cleared: usize,
     pub unread: usize,
@@ -31,6 +32,13 @@ pub struct Counts {
     pub sites_checked: usize,
     /// Refusals by number, each with its places and how often.
     pub refusals: BTreeMap<u16, BTreeMap<u16, usize>>,
+}
+
+impl Counts {
+    /// The ears that were never seen.
+    pub fn missing(&self) -> Vec<String> {
+        [self.empty_ears.missing(), self.crossed_ears.missing()].concat()
+    }
 }
 
 /// A loaded network and what happened to it. The lists have the short ears of accepted empty ears written out.
@@ -156,6 +164,7 @@ fn check_ear(ear: Vec<u16>, loaded: &mut Option<Loaded>, answer: Answer, counts:
     if ear.is_empty() && !loaded.accepted.is_empty() {
         return check_empty_ear(loaded, answer, counts);
     }
+    check_crossed_ear(&ear, loaded, &answer, counts)?;
     loaded.offered.push(ear.clone());
     match answer {
         Answer::New(new) if !ear.is_empty() => {
@@ -170,6 +179,19 @@ fn check_ear(ear: Vec<u16>, loaded: &mut Option<Loaded>, answer: Answer, counts:
         Answer::Refused(number, place) if ear.is_empty() => expect((number, place) == (7, 0)),
         answer => expect(matches!(answer, Answer::Refused(7..=16, _))),
     }
+}
+
+/// Document 02, Note 3: the two cases are 14 at the first born switch between the ends, and 11 is for two numbers only.
+fn check_crossed_ear(ear: &[u16], loaded: &Loaded, answer: &Answer, counts: &mut Counts) -> Result<(), String> {
+    if let Answer::Refused(11, place) = answer {
+        expect(ear.len() == 2 && *place == 0)?;
+    }
+    let Some(crossed) = brute::crossed(&loaded.site, &loaded.accepted, ear) else {
+        return Ok(());
+    };
+    counts.crossed_ears.add(crossed);
+    let place = brute::crossed_at(&loaded.accepted, ear).ok_or("an ear over a used link crosses no born switch")?;
+    expect(*answer == Answer::Refused(14, place as u16))
 }
 
 /// After the first ear an empty one is granted, and stands for short ears.

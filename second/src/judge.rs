@@ -1,7 +1,10 @@
-//! The judge of an open session: the checks of ears, refusals 7 to 16 of
-//! document 01, and 23 on closing; and the empty ear of document 02, Note 2.
+//! The judge of an open session: the checks of ears, refusals 7 to 16 of document 01 in the order of document 02,
+//! Note 3, and 23 on closing; and the empty ear of document 02, Note 2.
+
+use std::ops::Range;
 
 use crate::network::Network;
+use crate::seen::Crossed;
 use crate::{refuse, Plant, Refusal};
 
 /// The birth of a switch that is in no ear yet.
@@ -21,8 +24,28 @@ pub struct Judge {
     /// `seen[s] == round` when switch s stands in the ear at hand.
     seen: Vec<u32>,
     round: u32,
+    /// The links of the ear at hand.
+    links: Vec<usize>,
     plant: Plant,
 }
+
+/// A check: its number, and a test that gives the first offending place. The tests of 9 and 10 note the ear's switches
+/// and links for those that come after them.
+type Check = (u8, fn(&mut Judge, &[u16]) -> Option<usize>);
+
+/// The checks of an ear in the order in which they are asked: document 01's, with 14 where document 02, Note 3, has it.
+const CHECKS: [Check; 10] = [
+    (7, Judge::wrong_length),
+    (8, Judge::no_switch),
+    (9, Judge::second_standing),
+    (10, Judge::not_joined),
+    (14, Judge::born_between),
+    (11, Judge::used_link),
+    (12, Judge::not_root_to_first),
+    (13, Judge::unborn_end),
+    (15, Judge::last_too_early),
+    (16, Judge::no_unborn_neighbour),
+];
 
 impl Judge {
     pub fn new(network: Network, plant: Plant) -> Judge {
@@ -36,6 +59,7 @@ impl Judge {
             used: vec![false; m],
             seen: vec![0; n],
             round: 0,
+            links: Vec::new(),
             plant,
         }
     }
@@ -48,125 +72,143 @@ impl Judge {
         self.used[link]
     }
 
+    fn is_first_ear(&self) -> bool {
+        self.ears == 0
+    }
+
     /// Offers an ear; gives the number of its new switches.
     pub fn ear(&mut self, ear: &[u16]) -> Result<usize, Refusal> {
-        if ear.is_empty() && self.ears > 0 {
+        if ear.is_empty() && !self.is_first_ear() {
             self.take_leftover_links();
             return Ok(0);
         }
-        let links = self.check_list(ear)?;
-        let new = if self.ears == 0 {
-            self.check_first(ear)?;
-            ear
-        } else {
-            self.check_later(ear)?;
-            &ear[1..ear.len() - 1]
+        let refusal = match self.plant {
+            Plant::WrongOrder => self.former_refusal(ear),
+            _ => self.refusal(ear),
         };
-        // A place in the new switches is a place in the ear less `before`.
-        let before = if self.ears == 0 { 0 } else { 1 };
-        self.check_last(ear, new, before)?;
-        self.check_unborn_neighbours(new, before)?;
-        self.accept(ear, new, &links);
-        Ok(new.len())
+        match refusal {
+            Some(refusal) => Err(refusal),
+            None => Ok(self.accept(ear)),
+        }
     }
 
-    /// Checks 7 to 11, which ask of the ear as a list; gives its links.
-    fn check_list(&mut self, ear: &[u16]) -> Result<Vec<usize>, Refusal> {
-        let n = self.network.switches;
-        let fewest = if self.ears == 0 { 3 } else { 2 };
-        if ear.len() < fewest || ear.len() > n {
-            return refuse(7, 0);
+    /// The first check that an ear with numbers fails, and the first offending place.
+    pub fn refusal(&mut self, ear: &[u16]) -> Option<Refusal> {
+        self.ask(CHECKS, ear)
+    }
+
+    /// The same before document 02, Note 3: document 01 asks the checks in number order.
+    pub fn former_refusal(&mut self, ear: &[u16]) -> Option<Refusal> {
+        let mut checks = CHECKS;
+        checks.sort_by_key(|(number, _)| *number);
+        self.ask(checks, ear)
+    }
+
+    /// Which case of Note 3 the ear is: by the number that it was refused by before.
+    pub fn crossed(&mut self, ear: &[u16]) -> Option<Crossed> {
+        let former = self.former_refusal(ear);
+        if former == self.refusal(ear) {
+            return None;
         }
-        if let Some(place) = ear.iter().position(|&s| s as usize >= n) {
-            return refuse(8, place);
+        match former.map(|refusal| refusal.number) {
+            Some(11) => Some(Crossed::UsedLink),
+            Some(13) => Some(Crossed::UnbornEnd),
+            _ => panic!("the note changes no other answer than 11 and 13: {ear:?}"),
         }
+    }
+
+    fn ask(&mut self, checks: [Check; 10], ear: &[u16]) -> Option<Refusal> {
+        checks.into_iter().find_map(|(number, test)| Some(Refusal { number, place: test(self, ear)? }))
+    }
+
+    fn wrong_length(&mut self, ear: &[u16]) -> Option<usize> {
+        let fewest = if self.is_first_ear() { 3 } else { 2 };
+        (ear.len() < fewest || ear.len() > self.network.switches).then_some(0)
+    }
+
+    fn no_switch(&mut self, ear: &[u16]) -> Option<usize> {
+        ear.iter().position(|&s| s as usize >= self.network.switches)
+    }
+
+    /// Marks the switches as seen in this round.
+    fn second_standing(&mut self, ear: &[u16]) -> Option<usize> {
         self.round += 1;
-        for (place, &s) in ear.iter().enumerate() {
-            if self.seen[s as usize] == self.round {
-                return refuse(9, place);
-            }
-            self.seen[s as usize] = self.round;
-        }
-        let mut links = Vec::with_capacity(ear.len());
+        let round = self.round;
+        ear.iter().position(|&s| std::mem::replace(&mut self.seen[s as usize], round) == round)
+    }
+
+    /// Notes the links.
+    fn not_joined(&mut self, ear: &[u16]) -> Option<usize> {
+        self.links.clear();
         for (place, two) in ear.windows(2).enumerate() {
             match self.network.link_between(two[0], two[1]) {
-                Some(link) => links.push(link),
-                None if self.plant == Plant::WrongPlace => return refuse(10, place + 1),
-                None => return refuse(10, place),
+                Some(link) => self.links.push(link),
+                None if self.plant == Plant::WrongPlace => return Some(place + 1),
+                None => return Some(place),
             }
         }
-        if let Some(place) = links.iter().position(|&link| self.used[link]) {
-            return refuse(11, place);
-        }
-        Ok(links)
+        None
     }
 
-    /// Check 12.
-    fn check_first(&self, ear: &[u16]) -> Result<(), Refusal> {
-        if ear[0] != self.network.root || ear[ear.len() - 1] != self.network.first {
-            return refuse(12, 0);
+    /// The places of the new switches: in the first ear all, in a later one those between its ends.
+    fn new_places(&self, ear: &[u16]) -> Range<usize> {
+        if self.is_first_ear() {
+            0..ear.len()
+        } else {
+            1..ear.len() - 1
         }
-        Ok(())
     }
 
-    /// Checks 13 and 14.
-    fn check_later(&self, ear: &[u16]) -> Result<(), Refusal> {
-        let end = ear.len() - 1;
-        for place in [0, end] {
-            if !self.is_born(ear[place]) {
-                return refuse(13, place);
-            }
-        }
-        for (place, &s) in ear.iter().enumerate().take(end).skip(1) {
-            if self.is_born(s) {
-                return refuse(14, place);
-            }
-        }
-        Ok(())
+    /// Nobody is born before the first ear.
+    fn born_between(&mut self, ear: &[u16]) -> Option<usize> {
+        self.new_places(ear).find(|&place| self.is_born(ear[place]))
     }
 
-    /// Check 15. Among new switches, last must stand alone, nobody else may
-    /// be unborn after the ear, and no end may be root.
-    fn check_last(&self, ear: &[u16], new: &[u16], before: usize) -> Result<(), Refusal> {
-        let Some(at) = new.iter().position(|&s| s == self.network.last) else {
-            return Ok(());
-        };
+    fn used_link(&mut self, _: &[u16]) -> Option<usize> {
+        self.links.iter().position(|&link| self.used[link])
+    }
+
+    fn not_root_to_first(&mut self, ear: &[u16]) -> Option<usize> {
+        let ends = [ear[0], ear[ear.len() - 1]];
+        (self.is_first_ear() && ends != [self.network.root, self.network.first]).then_some(0)
+    }
+
+    fn unborn_end(&mut self, ear: &[u16]) -> Option<usize> {
+        let unborn = |place: &usize| !self.is_first_ear() && !self.is_born(ear[*place]);
+        [0, ear.len() - 1].into_iter().find(unborn)
+    }
+
+    /// Among new switches, last must stand alone, nobody else may be unborn after the ear, and no end may be root.
+    fn last_too_early(&mut self, ear: &[u16]) -> Option<usize> {
+        let mut new = self.new_places(ear);
+        let count = new.len();
+        let at = new.find(|&place| ear[place] == self.network.last)?;
         let root = self.network.root;
         let end_is_root = ear[0] == root || ear[ear.len() - 1] == root;
-        let alone = new.len() == 1;
-        let nobody_left = self.unborn == new.len();
-        if alone && nobody_left && (!end_is_root || self.plant == Plant::WrongList) {
-            return Ok(());
-        }
-        refuse(15, at + before)
+        let nobody_left = self.unborn == count;
+        let allowed = count == 1 && nobody_left && (!end_is_root || self.plant == Plant::WrongList);
+        (!allowed).then_some(at)
     }
 
-    /// Check 16. The new switches carry the mark of this round, as the whole
-    /// ear does; its ends are born, so a neighbour that is neither born nor
-    /// marked is still unborn after the ear.
-    fn check_unborn_neighbours(&self, new: &[u16], before: usize) -> Result<(), Refusal> {
-        for (at, &s) in new.iter().enumerate() {
-            let keeps = self
-                .network
-                .neighbours(s)
-                .iter()
-                .any(|other| !self.is_born(other.switch) && self.seen[other.switch as usize] != self.round);
-            if s != self.network.last && !keeps {
-                return refuse(16, at + before);
-            }
-        }
-        Ok(())
+    /// The new switches carry the mark of this round, as the whole ear does; its ends are born, so a neighbour that is
+    /// neither born nor marked is still unborn after the ear.
+    fn no_unborn_neighbour(&mut self, ear: &[u16]) -> Option<usize> {
+        let is_left = |s: u16| !self.is_born(s) && self.seen[s as usize] != self.round;
+        let keeps = |s: u16| self.network.neighbours(s).iter().any(|other| is_left(other.switch));
+        self.new_places(ear).find(|&place| ear[place] != self.network.last && !keeps(ear[place]))
     }
 
-    fn accept(&mut self, ear: &[u16], new: &[u16], links: &[usize]) {
-        for &link in links {
+    /// Takes an ear that fails no check; gives the number of its new switches.
+    fn accept(&mut self, ear: &[u16]) -> usize {
+        for &link in &self.links {
             self.used[link] = true;
         }
-        if self.ears == 0 {
+        if self.is_first_ear() {
             // The closing link first-root is understood and counts as used.
             let closing = self.network.link_between(self.network.first, self.network.root);
             self.used[closing.expect("check 6 asked for link root-first")] = true;
         }
+        let new = &ear[self.new_places(ear)];
         for &s in new {
             self.birth[s as usize] = self.ears;
         }
@@ -175,6 +217,7 @@ impl Judge {
             self.long_ears.push(ear.to_vec());
         }
         self.ears += 1;
+        new.len()
     }
 
     /// An empty ear takes every unused link whose two switches are born, as short ears in table order.

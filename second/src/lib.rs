@@ -7,7 +7,7 @@
 //!
 //! What checks them:
 //! `brute` has Definition 9 and demand 3 over whole lists, `follow` holds an
-//! output against them, `empty_ears` counts empty ears, `random`, `plan`, `damage` and `script` make inputs,
+//! output against them, `seen` counts what has to be seen, `random`, `plan`, `damage` and `script` make inputs,
 //! `compare` and `shrink` find a difference and make it small.
 //!
 //! With the static archive of the first program linked (the cfg `archive`):
@@ -21,7 +21,6 @@ pub mod calls;
 pub mod compare;
 pub mod damage;
 pub mod dialogue;
-pub mod empty_ears;
 pub mod every;
 pub mod follow;
 pub mod judge;
@@ -31,6 +30,7 @@ pub mod order;
 pub mod plan;
 pub mod random;
 pub mod script;
+pub mod seen;
 pub mod session;
 pub mod shrink;
 pub mod tables;
@@ -61,6 +61,8 @@ pub enum Plant {
     WrongList,
     /// An empty ear takes links with one switch unborn too.
     WrongLinks,
+    /// The checks of an ear are asked in number order, as before document 02, Note 3.
+    WrongOrder,
 }
 
 impl Plant {
@@ -71,6 +73,7 @@ impl Plant {
             2 => Some(Plant::WrongParent),
             3 => Some(Plant::WrongList),
             4 => Some(Plant::WrongLinks),
+            5 => Some(Plant::WrongOrder),
             _ => None,
         }
     }

@@ -175,7 +175,7 @@ mod tests {
         let mut session = after(&[]);
         assert_eq!(session.ears(&[3, 0, 2, 1, 3, 2, 3, 0, 2, 0, 3]), stopped(1, 15, 1));
         assert_eq!(session.close(), refuse(23, 2));
-        assert_eq!(session.ears(&WHOLE), stopped(0, 11, 0));
+        assert_eq!(session.ears(&WHOLE), stopped(0, 14, 1));
         assert_eq!(session.ears(&WHOLE[4..]), (2, None));
         assert_eq!(session.close(), Ok(()));
     }

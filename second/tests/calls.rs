@@ -26,6 +26,7 @@ mod with_the_archive {
     use std::process::{Command, Output};
 
     use second_reading::calls::{run, Difference, Fault, Kind};
+    use second_reading::seen::Seen;
     use second_reading::Plant;
 
     fn difference(plant: Plant, fault: Fault) -> Difference {
@@ -41,7 +42,7 @@ mod with_the_archive {
         assert!(counts.granted.keys().eq(&["clear", "close", "ear", "ears", "load", "parent", "walk"]), "{counts:?}");
         assert!(counts.unknown_granted.keys().eq(&["clear", "close", "ear", "ears", "parent", "walk"]), "{counts:?}");
         // Memory that reads as empty is the second program's empty session.
-        assert_eq!(counts.unknown_empty_ears.missing(), ["refused 19"]);
+        assert_eq!(counts.unknown_empty_ears.missing(), ["an empty ear refused 19"]);
         assert!(counts.stopped > 0 && counts.wrong_lengths > 0, "{counts:?}");
     }
 
@@ -52,6 +53,7 @@ mod with_the_archive {
             (Plant::WrongParent, Kind::Field),
             (Plant::WrongList, Kind::Answer),
             (Plant::WrongLinks, Kind::Answer),
+            (Plant::WrongOrder, Kind::Answer),
         ] {
             let Difference { finding, steps, .. } = difference(plant, Fault::Nothing);
             assert_eq!(finding.kind, kind, "{plant:?}: {finding:?}");
@@ -87,7 +89,7 @@ mod with_the_archive {
             (&["1", "20000", "--plant", "1"], 1),
             (&["1"], 2),
             (&["1", "many"], 2),
-            (&["1", "1000", "--plant", "5"], 2),
+            (&["1", "1000", "--plant", "6"], 2),
         ] {
             let ended = second_calls(arguments);
             assert_eq!(ended.status.code(), Some(status), "{arguments:?}");

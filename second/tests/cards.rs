@@ -105,17 +105,43 @@ fn cards_k_and_l() {
     assert!(brute::is_mondschein(&site, &ears));
 }
 
+/// A plan of `examples/`.
+fn example(name: &str) -> String {
+    let path = format!("{}/../examples/{name}.plan", env!("CARGO_MANIFEST_DIR"));
+    std::fs::read_to_string(path).unwrap()
+}
+
 /// Long ears and one empty ear close with the replies of the same plan written out.
 #[test]
 fn plans_with_long_ears_only() {
     for (written_out, long_ears) in [("card-k", "long-ears"), ("site-1024", "long-ears-1024")] {
         let [one, other] = [written_out, long_ears].map(|name| {
-            let path = format!("{}/../examples/{name}.plan", env!("CARGO_MANIFEST_DIR"));
-            let replies = answers(&std::fs::read_to_string(path).unwrap());
+            let replies = answers(&example(name));
             replies.split_once("(closed)\n").expect("the plan closes").1.to_string()
         });
         assert!(one == other && one.starts_with("(walk"), "{long_ears}");
     }
+}
+
+/// Each number that lines can show has a plan that ends with it.
+#[test]
+fn plans_that_are_refused() {
+    for number in (1..=17).chain(19..=23) {
+        let replies = answers(&example(&format!("refused-{number:02}")));
+        let last = replies.lines().last().unwrap();
+        assert!(last.starts_with(&format!("(refused {number} ")), "{number}: {last}");
+    }
+}
+
+/// The plan of crossed ears: both are 14 at 1, which were 13 at 0 and 11 at 0 before document 02, Note 3.
+#[test]
+fn plan_with_crossed_ears() {
+    let plan = example("crossed");
+    let replies = "(opened 5 10)\n(new 3)\n(refused 14 1)\n(refused 14 1)\n(new 1)\n(new 1)\n(new 0)\n(closed)\n";
+    assert_eq!(answers(&plan), replies);
+    let former = String::from_utf8(run_bytes(plan.as_bytes(), Plant::WrongOrder)).unwrap();
+    let refused: Vec<&str> = former.lines().filter(|line| line.starts_with("(refused")).collect();
+    assert_eq!(refused, ["(refused 13 0)", "(refused 11 0)"]);
 }
 
 #[test]

@@ -1,7 +1,7 @@
 //! `second-compare PATH SEED COUNT` compares the program at PATH with the
 //! second one on generated scripts; `second-compare PATH FILE..` on files;
 //! `second-compare PATH every` on every list of ears of small networks.
-//! `--plant N` (1 to 4) puts a fault into the second program on purpose.
+//! `--plant N` (1 to 5) puts a fault into the second program on purpose.
 //! With `-` for PATH the second program, without a fault, stands for the first.
 
 use std::io::Write;
@@ -16,7 +16,7 @@ use second_reading::network::Site;
 use second_reading::script::script;
 use second_reading::Plant;
 
-/// With so many scripts or more, an empty ear has to be seen with every answer that it can have.
+/// With so many scripts or more, an empty ear has to be seen with every answer that it can have, and both crossed ears.
 const ENOUGH: usize = 300;
 
 const USAGE: &str = "second-compare PATH SEED COUNT [--plant N]\nsecond-compare PATH FILE.. [--plant N]\nsecond-compare PATH every [--plant N]";
@@ -47,9 +47,9 @@ fn main() -> ExitCode {
     };
     let Ok(counts) = counts else { return ExitCode::FAILURE };
     println!("{}", summary(&counts));
-    let missing = counts.empty_ears.missing();
+    let missing = counts.missing();
     if numbers.len() == 2 && counts.scripts >= ENOUGH && !missing.is_empty() {
-        println!("empty ears that were never seen: {missing:?}");
+        println!("never seen: {}", missing.join(", "));
         return ExitCode::FAILURE;
     }
     ExitCode::SUCCESS

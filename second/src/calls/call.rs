@@ -5,7 +5,7 @@ use std::fmt::{Display, Formatter, Result as Written};
 
 use crate::archive::{self, Parts};
 use crate::network::Site;
-use crate::session::Session;
+use crate::session::{ears_of, Session};
 use crate::{Plant, Refusal};
 
 #[derive(Clone, Debug)]
@@ -54,6 +54,15 @@ impl Call {
 
     pub fn is_empty_ear(&self) -> bool {
         matches!(self, Call::Ear(ear) if ear.is_empty())
+    }
+
+    /// The ear that was refused, of a list the one behind those accepted; none where a count is past the end.
+    pub fn refused_ear(&self, answer: &Answer) -> Option<&[u16]> {
+        match self {
+            Call::Ear(ear) if answer.values.is_err() => Some(ear),
+            Call::Ears(list) if answer.values.is_err() => ears_of(list).nth(answer.accepted)?,
+            _ => None,
+        }
     }
 
     /// The numbers that the call lends for reading.

@@ -10,15 +10,15 @@ use super::lengths::wrong_lengths;
 use super::side::Fault;
 use super::trial::{Done, Finding, Step, Trial};
 use crate::compare::refusals_told;
-use crate::empty_ears::EmptyEars;
 use crate::random::Random;
+use crate::seen::{CrossedEars, EmptyEars, Seen};
 use crate::session::ears_of;
 use crate::Plant;
 
 /// A walk on memory that no calls made may go on for 65,535 switches, and it calls itself for each.
 const STACK: usize = 64 << 20;
 
-/// With so many calls or more, every refusal has to be seen, and every answer to an empty ear.
+/// With so many calls or more, every refusal has to be seen, every answer to an empty ear, and both crossed ears.
 const ENOUGH: usize = 100_000;
 
 /// What was seen.
@@ -31,6 +31,7 @@ pub struct Counts {
     pub granted: BTreeMap<&'static str, usize>,
     pub refusals: BTreeMap<u16, BTreeMap<u16, usize>>,
     pub empty_ears: EmptyEars,
+    pub crossed_ears: CrossedEars,
     /// Lists that were refused at an ear behind accepted ones, and lists with an empty ear accepted.
     pub stopped: usize,
     pub lists_with_empty: usize,
@@ -192,9 +193,12 @@ fn name(call: &Call) -> &'static str {
 impl Counts {
     fn add(&mut self, step: &Step, done: &Done) {
         match (step, done) {
-            (Step::Call(call), Done::Answered { answer, known, leftover }) => {
+            (Step::Call(call), Done::Answered { answer, known, leftover, crossed }) => {
                 self.calls += 1;
                 self.add_answer(call, answer, *known);
+                if let Some(crossed) = crossed {
+                    self.crossed_ears.add(*crossed);
+                }
                 if call.is_empty_ear() {
                     let ears = if *known { &mut self.empty_ears } else { &mut self.unknown_empty_ears };
                     ears.add(answer.values.as_ref().map(|_| *leftover).map_err(|refusal| refusal.number.into()));
@@ -228,13 +232,13 @@ impl Counts {
         }
     }
 
-    /// The refusals, and the empty ears, that were never seen although there were calls enough.
+    /// The refusals, and the ears, that were never seen although there were calls enough.
     pub fn missing(&self) -> Vec<String> {
         if self.calls < ENOUGH {
             return Vec::new();
         }
         let refusals = (1..=23).filter(|number| !self.refusals.contains_key(number)).map(|number| number.to_string());
-        let ears = self.empty_ears.missing().into_iter().map(|answer| format!("an empty ear {answer}"));
+        let ears = [self.empty_ears.missing(), self.crossed_ears.missing()].concat();
         let listed = (self.lists_with_empty == 0).then(|| "an empty ear in a list".to_string());
         refusals.chain(ears).chain(listed).collect()
     }
@@ -248,7 +252,7 @@ pub fn summary(counts: &Counts) -> String {
     };
     format!(
         "equal: {} calls, {} sessions; {} compared with the second program, granted {}, \
-         refusals (number:times/places) {}, empty ears: {}; \
+         refusals (number:times/places) {}, empty ears: {}, crossed ears: {}; \
          {} overwritten, {} calls on them, granted {}, refusals {}, empty ears: {}; \
          {} lists stopped behind accepted ears, {} with an empty ear accepted; {} calls with arrays of wrong lengths",
         counts.calls,
@@ -256,12 +260,13 @@ pub fn summary(counts: &Counts) -> String {
         counts.compared,
         told(&counts.granted),
         refusals_told(&counts.refusals),
-        counts.empty_ears,
+        counts.empty_ears.told(),
+        counts.crossed_ears.told(),
         counts.overwritten,
         counts.unknown,
         told(&counts.unknown_granted),
         refusals_told(&counts.unknown_refusals),
-        counts.unknown_empty_ears,
+        counts.unknown_empty_ears.told(),
         counts.stopped,
         counts.lists_with_empty,
         counts.wrong_lengths,

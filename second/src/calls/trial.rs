@@ -11,6 +11,7 @@ use super::memory::{leaves, may_answer, with_leftover_taken};
 use super::overwrite::overwrite;
 use super::side::{Fault, Side};
 use crate::archive::{self, CLOSED, OPEN};
+use crate::seen::Crossed;
 use crate::session::Session;
 use crate::Plant;
 
@@ -58,11 +59,13 @@ impl Finding {
 
 /// What a step did, for the counts.
 pub enum Done {
-    /// `leftover` is the count of links that an empty ear takes where it is granted.
+    /// `leftover` is the count of links that an empty ear takes where it is granted; `crossed` is for a refused ear
+    /// where the second program knows the session.
     Answered {
         answer: Answer,
         known: bool,
         leftover: usize,
+        crossed: Option<Crossed>,
     },
     Overwritten,
     Lengths,
@@ -107,7 +110,9 @@ impl Trial {
             Step::Call(call) => {
                 let known = self.second.is_some();
                 let leftover = if call.is_empty_ear() { with_leftover_taken(&self.before).0 } else { 0 };
-                Ok(Done::Answered { answer: self.call(call)?, known, leftover })
+                let answer = self.call(call)?;
+                let crossed = self.crossed(call, &answer);
+                Ok(Done::Answered { answer, known, leftover, crossed })
             }
             Step::Overwrite(seed) => {
                 self.overwrite(*seed);
@@ -117,6 +122,14 @@ impl Trial {
                 make_wrong(&self.before, call, *lengths, &self.filler, self.fault)?;
                 Ok(Done::Lengths)
             }
+        }
+    }
+
+    /// Whether document 02, Note 3, changed the answer to the ear that was refused, which left the session as it was.
+    fn crossed(&mut self, call: &Call, answer: &Answer) -> Option<Crossed> {
+        match &mut self.second {
+            Some(Session::Open(judge)) => judge.crossed(call.refused_ear(answer)?),
+            _ => None,
         }
     }
 

@@ -82,7 +82,7 @@ fn low_hubs() -> Plan {
 }
 
 /// A list that closes but for 999 links, which stand last in the table. They are a walk through 1,000 switches, offered
-/// so many times as one ear: it passes checks 7 to 13, and is refused since its switches are in earlier ears.
+/// so many times as one ear: it passes checks 7 to 10, and is refused since its switches are in earlier ears.
 fn refused_at_its_end(times: usize) -> Plan {
     let mut random = Random::new(1, 14);
     let mut plan = Plan::of(&mixed(1024, 4096 - 999), &mut random);
