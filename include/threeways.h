@@ -153,7 +153,7 @@ static inline struct threeways_refusal threeways_load(struct threeways_session *
 
 /* Offers an ear of `count` switch numbers to an open session, and writes how many switches are new. With a count of 0 it is the empty
  * ear: after the first ear it takes every unused link whose two switches are born, as ears of two numbers in table order, and writes 0,
- * also where no such link is left; before it, it is 7. Refusals 19, 22, then 7 to 16. */
+ * also where no such link is left; before it, it is 7. Refusals, in this order: 19, 22, 7 8 9 10 14 11 12 13 15 16. */
 static inline struct threeways_refusal threeways_ear(struct threeways_session *s, const uint16_t *ear, size_t count,
     uint16_t *new_switches)
 {
@@ -165,7 +165,7 @@ static inline struct threeways_refusal threeways_ear(struct threeways_session *s
 /* Offers the ears of a list of `numbers` numbers, each ear preceded by its count of switch numbers: one after another, up to the first
  * refusal, which is given back, its place in that ear. Writes how many ears were accepted, also then, and they stay: only the refused
  * one changes nothing. A count past the end of the list is 7 in its turn; with no number at all nothing is offered, at any stage.
- * A count of 0 is the empty ear, and counts as one. Refusals of an ear: 19, 22, then 7 to 16. */
+ * A count of 0 is the empty ear, and counts as one. Refusals of an ear: those of threeways_ear. */
 static inline struct threeways_refusal threeways_ears(struct threeways_session *s, const uint16_t *list, size_t numbers,
     size_t *accepted)
 {

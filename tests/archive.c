@@ -117,7 +117,7 @@ static void whole_list(void)
     hold(is(threeways_close(s), 0, 0) && same(s, &done), "close succeeds, and the fields are those of ears one by one");
     *s = loaded;
     hold(is(offer(s, list, 10), 7, 0) && accepted == 2, "the list without its last number is 7 at 0, with two ears accepted");
-    hold(is(offer(s, list, 11), 11, 0) && accepted == 0, "its first ear is then 11 at 0: the accepted ones stay");
+    hold(is(offer(s, list, 11), 14, 1) && accepted == 0, "its first ear is then 14 at 1: the accepted ones stay");
     hold(is(offer(s, list + 8, 3), 0, 0) && accepted == 1, "its last ear succeeds: only the refused one changed nothing");
     hold(is(threeways_close(s), 0, 0) && same(s, &done), "close succeeds, and the fields are the same");
 }
@@ -144,6 +144,28 @@ static void leftover_links(void)
     hold(is(threeways_close(s), 0, 0) && same(s, &done), "close succeeds, and the fields are the same again");
 }
 
+/* Five switches, each two joined: a switch between the ends that is born is told before a used link and before an unborn end. */
+static void crossed_switch(void)
+{
+    static const uint16_t all[] = { 0, 1, 0, 2, 0, 3, 0, 4, 1, 2, 1, 3, 1, 4, 2, 3, 2, 4, 3, 4 };
+    static const uint16_t unborn_end[] = { 3, 0, 4 }, used_link[] = { 0, 2, 3, 1 };
+    static const uint16_t listed[] = { 3, 3, 4, 0, 3, 0, 2, 1 };          /* a wrong first ear: all its switches are unborn */
+    static struct threeways_session before;
+    struct threeways_session *s = &session;
+    *s = zeros;
+    hold(is(threeways_load(s, 5, all, 20, 0, 1, 4), 0, 0), "five switches, each two joined, are loaded");
+    hold(is(offer(s, listed, 8), 12, 0) && accepted == 0, "no first ear crosses a switch: a wrong one is 12 at 0");
+    hold(is(offer(s, listed + 4, 4), 0, 0) && accepted == 1, "the first ear succeeds");
+    before = *s;
+    count = 9;
+    hold(is(threeways_ear(s, unborn_end, 3, &count), 14, 1), "a born switch between unborn ends is 14 at 1, not 13 at 0");
+    hold(is(threeways_ear(s, used_link, 4, &count), 14, 1), "a born switch on a used link is 14 at 1, not 11 at 0");
+    hold(s->births[used_link[1]] == 1, "its birth is the first ear");
+    hold(is(threeways_ear(s, used_link, 2, &count), 11, 0), "an ear of two numbers over a used link is 11 at 0");
+    hold(is(threeways_ear(s, unborn_end, 2, &count), 13, 0), "an ear of two numbers with an unborn end is 13 at 0");
+    hold(same(s, &before) && count == 9, "these refusals leave session and output");
+}
+
 static void closed_session(void)
 {
     const struct threeways_session *s = &other;
@@ -168,6 +190,7 @@ int main(void)
     open_session();
     whole_list();
     leftover_links();
+    crossed_switch();
     closed_session();
     return failed;
 }
