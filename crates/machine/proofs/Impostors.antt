@@ -1,5 +1,5 @@
 -- Document 01's impostors, and one each of Notes 1 to 3, as programs that are the machine but for one thing, with the demand that each does
--- not meet. So none of the demands 1, 2 and 3 holds of every program, nor do OneByOne, EmptyEar and CrossedTold.
+-- not meet. So none of the demands 1, 2 and 3 holds of every program, nor do OneByOne, EmptyEar and OrderOfChecks.
 use mathlib.Core.Path.{_≡_, refl, ap}
 use mathlib.Core.Logic.{inr, ⊎-elim}
 use mathlib.Core.Bool.{true, _&&_, cond}
@@ -14,12 +14,12 @@ use Rattle.mondschein.specs.Order.{position, fromA, between, extend, order, cou
 use Rattle.mondschein.specs.Outcome.{granted, Outcome, settle, unknown}
 use Rattle.mondschein.specs.WholeList.{offeringFrom, earsFrom, earsIn, flat}
 use Rattle.mondschein.specs.EmptyEar.{leftOver, shortEars, isEmpty, entering, answerTo, writtenOut}
-use Rattle.mondschein.specs.CrossedFirst.{oldAnswerTo}
+use Rattle.mondschein.specs.CheckOrder.{oldAnswerTo}
 use Rattle.mondschein.specs.Mondschein.{Mondschein}
 use Rattle.mondschein.proofs.Checks.{never}
 use Rattle.mondschein.proofs.Excluded.{link-in-three-trees}
 use Rattle.machine.specs.Machine.{plan, closedPlan, State, empty, opened, closed, byState, Call, load, ear, ears, close, clear, longer, offer, answers, told, tells, parentCall, walkCall, orderOf, sizeOf, Program, historyFrom, history}
-use Rattle.machine.specs.Demands.{Demand1, OneByOne, Demand2, EmptyEar, CrossedTold, Demand3}
+use Rattle.machine.specs.Demands.{Demand1, OneByOne, Demand2, EmptyEar, OrderOfChecks, Demand3}
 use Rattle.machine.proofs.Demand2.{plain}
 
 -- to unfold this is to unfold the judge, the tables and the machine
@@ -207,7 +207,7 @@ oldAnswer s (ears l) = answers (ears l) s
 oldAnswer s close = answers close s
 oldAnswer s clear = answers clear s
 
-pub tells-the-link : CrossedTold (record { Session = State; fresh = empty; after = λ s c. tells c (oldAnswer s c) s; answer = oldAnswer; parent = parentCall; walk = walkCall; order = orderOf; size = sizeOf }) → ⊥
+pub tells-the-link : OrderOfChecks (record { Session = State; fresh = empty; after = λ s c. tells c (oldAnswer s c) s; answer = oldAnswer; parent = parentCall; walk = walkCall; order = orderOf; size = sizeOf }) → ⊥
 unfolding computed oldAnswerTo
 tells-the-link d =
     let (_, q) = d (load net ∷ ear cycle ∷ []) (plan net (cycle ∷ [])) refl (3 ∷ 0 ∷ 2 ∷ []) .from11 ((omega arith, refl), omega arith, (1, omega arith, refl)) in

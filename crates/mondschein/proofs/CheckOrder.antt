@@ -1,4 +1,4 @@
--- Note 3 of document 02: which answers the order of checks changes, of any marks (`only-moved`) and after accepted ears (`told-first`).
+-- Note 3 of document 02: which answers the order of checks changes, of any marks (`only-moved`) and after accepted ears (`answers-changed`).
 -- A used link has two born switches, and of a long ear one of them stands between the ends.
 use mathlib.Core.Path.{_≡_, refl, sym, ap, _∙_}
 use mathlib.Core.Logic.{_⊎_, inl, inr, ⊎-elim}
@@ -12,7 +12,7 @@ use borrow.Author.Tests.{ltb-false, ne-eqb, eq-eqb, not-true, not-false}
 use Rattle.mondschein.specs.Network.{low, any, Network, at, holds, joins, joined, passes, linkOf, Ears, earAt, born, trail, used, newCount}
 use Rattle.mondschein.specs.Judge.{Answer, given, Check, refused, numbered, checked, earChecks, checkOrder, wrongLength, notJoined, usedAlready, wrongCycle, unbornEnd, bornBetween, verdictBy, verdict}
 use Rattle.mondschein.specs.EmptyEar.{isEmpty, entering, answerTo}
-use Rattle.mondschein.specs.CrossedFirst.{oldCheckOrder, OnlyMoved, oldAnswerTo, LaterPast10, UsedLink, UnbornEnd, BornBetween, LongOverUsed, CrossedFromUnborn, firstUsed, firstUnborn, firstCrossed, CrossedFirst, ToldFirst}
+use Rattle.mondschein.specs.CheckOrder.{oldCheckOrder, OnlyMoved, oldAnswerTo, LaterPast10, UsedLink, UnbornEnd, BornBetween, UsedLinkCase, UnbornEndCase, firstUsed, firstUnborn, firstBorn, ChangedAnswers, AnswersChanged}
 use Rattle.mondschein.proofs.Logic.{which, clash, less?, and-true, true-and, or-false}
 use Rattle.mondschein.proofs.Search.{any-true, any-false}
 use Rattle.mondschein.proofs.Links.{passes-held, trail-held, link-found}
@@ -27,12 +27,12 @@ module _ (net : Network) (isBorn isUsed : ℕ → Bool) (isFirst : Bool) (e : Li
   unfolding verdictBy numbered earChecks holds any low without
   only-moved =
       record {
-        uncrossed = uncrossed;
-        accepts = λ vs. (λ q. sym (uncrossed (passes checkOrder refl q)) ∙ q, λ q. uncrossed (passes oldCheckOrder refl q) ∙ q);
+        noneBetween = noneBetween;
+        accepts = λ vs. (λ q. sym (noneBetween (passes checkOrder refl q)) ∙ q, λ q. noneBetween (passes oldCheckOrder refl q) ∙ q);
       }
     where
-      uncrossed : ((k : ℕ) → k < length e → bornBetween isBorn isFirst e k ≡ false) → verdict net isBorn isUsed isFirst e ≡ verdictBy oldCheckOrder net isBorn isUsed isFirst e
-      uncrossed c =
+      noneBetween : ((k : ℕ) → k < length e → bornBetween isBorn isFirst e k ≡ false) → verdict net isBorn isUsed isFirst e ≡ verdictBy oldCheckOrder net isBorn isUsed isFirst e
+      noneBetween c =
           checked-without (earChecks net isBorn isUsed isFirst e) checkOrder _ 14 c
           ∙ sym (checked-without (earChecks net isBorn isUsed isFirst e) oldCheckOrder _ 14 c)
 
@@ -72,9 +72,9 @@ module _ (net : Network) (es : Ears) (acc : Passing net es) (e : List ℕ) where
   linked c k l = not-false _ (c k (let h : k < pred (length e) = omega arith in h))
 
   -- a long one over a used link runs through a born switch
-  crossed : Passes cs 10 → 3 ≤ length e → UsedLink net es e → BornBetween net es e
-  crossed c three (zero, l, u) = (1, omega arith, omega arith, used-born net es acc _ _ _ u (link-found net _ _ (linked c 0 l) .1) .1)
-  crossed c three (suc k, l, u) = (suc k, omega arith, l, used-born net es acc _ _ _ u (link-found net _ _ (linked c (suc k) l) .1) .0)
+  born-between : Passes cs 10 → 3 ≤ length e → UsedLink net es e → BornBetween net es e
+  born-between c three (zero, l, u) = (1, omega arith, omega arith, used-born net es acc _ _ _ u (link-found net _ _ (linked c 0 l) .1) .1)
+  born-between c three (suc k, l, u) = (suc k, omega arith, l, used-born net es acc _ _ _ u (link-found net _ _ (linked c (suc k) l) .1) .0)
 
   -- what the tests of 11, 13 and 14 find
   between-found : BornBetween net es e → (k : ℕ) × (k < length e) × (bornBetween (born es) false e k ≡ true)
@@ -100,7 +100,7 @@ module _ (net : Network) (es : Ears) (acc : Passing net es) (e : List ℕ) where
       (end-new (length e) k l (not-true _ f))
 
   -- the new answer, and the two old ones
-  new14 : To10 → BornBetween net es e → verdictBy checkOrder net (born es) (used net es) false e ≡ refused 14 (firstCrossed net es e)
+  new14 : To10 → BornBetween net es e → verdictBy checkOrder net (born es) (used net es) false e ≡ refused 14 (firstBorn net es e)
   unfolding verdictBy numbered earChecks holds any low before
   new14 c w = let (k, l, t) = between-found w in checked-found cs checkOrder _ 14 refl c k l t
 
@@ -131,7 +131,7 @@ module _ (net : Network) (es : Ears) (acc : Passing net es) (e : List ℕ) where
         from11 (drop 4 oldCheckOrder) _
         ∙ checked-found cs (drop 4 oldCheckOrder) _ 13 refl (all-more cs 11 (12 ∷ []) unused (all-more cs 12 [] no-cycle (all-none cs))) k l t
 
-    old14 : (UnbornEnd net es e → ⊥) → BornBetween net es e → verdictBy oldCheckOrder net (born es) (used net es) false e ≡ refused 14 (firstCrossed net es e)
+    old14 : (UnbornEnd net es e → ⊥) → BornBetween net es e → verdictBy oldCheckOrder net (born es) (used net es) false e ≡ refused 14 (firstBorn net es e)
     unfolding verdictBy numbered earChecks holds any low before
     old14 ends w =
         let (k, l, t) = between-found w in
@@ -148,7 +148,7 @@ module _ (net : Network) (es : Ears) (acc : Passing net es) (e : List ℕ) where
       (λ num k _. inr (_, k, refl))
       (inl refl)
 
-  past10-same : LaterPast10 net es e → BornBetween net es e → (LongOverUsed net es e → ⊥) → (CrossedFromUnborn net es e → ⊥)
+  past10-same : LaterPast10 net es e → BornBetween net es e → (UsedLinkCase net es e → ⊥) → (UnbornEndCase net es e → ⊥)
       → verdict net (born es) (used net es) false e ≡ verdictBy oldCheckOrder net (born es) (used net es) false e
   past10-same past w long unborn = new14 c w ∙ sym (old14 c free (λ ends. unborn (past, ends, w, free)) w)
     where
@@ -158,7 +158,7 @@ module _ (net : Network) (es : Ears) (acc : Passing net es) (e : List ℕ) where
       free : UsedLink net es e → ⊥
       free u = let (k, l, m, _) = w in long (past, (let h : 3 ≤ length e = omega arith in h), u)
 
-  same : 0 < length es → (LongOverUsed net es e → ⊥) → (CrossedFromUnborn net es e → ⊥)
+  same : 0 < length es → (UsedLinkCase net es e → ⊥) → (UnbornEndCase net es e → ⊥)
       → verdict net (born es) (used net es) false e ≡ verdictBy oldCheckOrder net (born es) (used net es) false e
   unfolding verdictBy
   same some long unborn =
@@ -169,7 +169,7 @@ module _ (net : Network) (es : Ears) (acc : Passing net es) (e : List ℕ) where
       (λ q. past10-same (some, q) (found-between k l h) long unborn)
       (λ (num, place, q). refused-alike num place q)
       to10)
-      (λ f. only-moved net (born es) (used net es) false e .uncrossed (any-false (bornBetween (born es) false e) (length e) f))
+      (λ f. only-moved net (born es) (used net es) false e .noneBetween (any-false (bornBetween (born es) false e) (length e) f))
       (which (any (bornBetween (born es) false e) (length e)))
 
   -- 11 is given for two numbers only
@@ -181,7 +181,7 @@ module _ (net : Network) (es : Ears) (acc : Passing net es) (e : List ℕ) where
       let two : 2 ≤ length e = ltb-false _ _ (or-false _ _ (f .earlier 7 refl 0 one) .0) in
       let inside : (k : ℕ) → k < pred (length e) → suc k < length e = λ k l. omega arith in
       ⊎-elim
-      (λ (three : 2 < length e). let (k, l, t) = between-found (crossed (f .earlier 10 refl) three (place, inside place (f .below), f .bad)) in clash t (f .earlier 14 refl k l))
+      (λ (three : 2 < length e). let (k, l, t) = between-found (born-between (f .earlier 10 refl) three (place, inside place (f .below), f .bad)) in clash t (f .earlier 14 refl k l))
       (λ (h : length e ≤ 2). omega arith)
       (less? 2 (length e))
 
@@ -189,7 +189,7 @@ module _ (net : Network) (es : Ears) (acc : Passing net es) (e : List ℕ) where
 module _ (net : Network) (es : Ears) (none : length es ≡ 0) (e : List ℕ) where
   same-first : verdict net (born es) (used net es) true e ≡ verdictBy oldCheckOrder net (born es) (used net es) true e
   unfolding bornBetween
-  same-first = only-moved net (born es) (used net es) true e .uncrossed (λ k l. refl)
+  same-first = only-moved net (born es) (used net es) true e .noneBetween (λ k l. refl)
 
   never-11 : {X : Type 0} (place : ℕ) → verdict net (born es) (used net es) true e ≡ refused 11 place → X
   unfolding verdictBy numbered earChecks usedAlready used
@@ -225,14 +225,14 @@ module _ (net : Network) (es : Ears) (e : List ℕ) (acc : Passing net es) (some
   as-later : (nums : List ℕ) → 0 < length e → answerBy net es e nums (eqb (length es) 0) ≡ verdictBy nums net (born es) (used net es) false e
   as-later nums l = ap (answerBy net es e nums) not-first ∙ judged-by net es e nums l
 
-  later-first : CrossedFirst net es e (answerTo net es e)
+  changed-later : ChangedAnswers net es e (answerTo net es e)
   unfolding answerTo entering oldAnswerTo answerBy holds any low
-  later-first =
+  changed-later =
       record {
         from11 = λ (past, three, u).
             let c = past10 net es acc e past in
             let l : 0 < length e = omega arith in
-            (as-later oldCheckOrder l ∙ old11 net es acc e c u, as-later checkOrder l ∙ new14 net es acc e c (crossed net es acc e (c 10 refl) three u));
+            (as-later oldCheckOrder l ∙ old11 net es acc e c u, as-later checkOrder l ∙ new14 net es acc e c (born-between net es acc e (c 10 refl) three u));
         from13 = λ (past, ends, w, free).
             let c = past10 net es acc e past in
             let (_, k, m, _) = w in
@@ -248,9 +248,9 @@ module _ (net : Network) (es : Ears) (e : List ℕ) (none : length es ≡ 0) whe
   is-first : eqb (length es) 0 ≡ true
   is-first = eq-eqb (length es) 0 none
 
-  first-first : CrossedFirst net es e (answerTo net es e)
+  changed-first : ChangedAnswers net es e (answerTo net es e)
   unfolding answerTo entering oldAnswerTo answerBy
-  first-first =
+  changed-first =
       record {
         from11 = λ h. absurd (let l = h .0 .0 in omega arith);
         from13 = λ h. absurd (let l = h .0 .0 in omega arith);
@@ -259,5 +259,5 @@ module _ (net : Network) (es : Ears) (e : List ℕ) (none : length es ≡ 0) whe
         only11 = λ place q. never-11 net es none e place (by-verdict net es e true 11 place (sym (ap (answerBy net es e checkOrder) is-first) ∙ q));
       }
 
-pub told-first : ToldFirst
-told-first net es e accepted = ⊎-elim (later-first net es e (accepted-passing net es accepted)) (λ h. first-first net es e (omega arith)) (less? 0 (length es))
+pub answers-changed : AnswersChanged
+answers-changed net es e accepted = ⊎-elim (changed-later net es e (accepted-passing net es accepted)) (λ h. changed-first net es e (omega arith)) (less? 0 (length es))

@@ -1,5 +1,5 @@
--- Document 02, Note 3: a crossed cabinet is told before a used cable. The order of checks before the note, and which answers it changed.
--- An ear is accepted in the one order exactly when it is in the other. Proofs: proofs/CrossedFirst.antt.
+-- Document 02, Note 3: a born switch between the ends (14) is told before a used link (11). The order of checks before the note, and which
+-- answers it changed; whether an ear is accepted it did not change. Proofs: proofs/CheckOrder.antt.
 use mathlib.Core.Path.{_≡_}
 use mathlib.Core.Logic.{_⊎_, _↔_}
 use mathlib.Core.Bool.{Bool, true, false, cond}
@@ -18,7 +18,7 @@ oldCheckOrder = 7 ∷ 8 ∷ 9 ∷ 10 ∷ 11 ∷ 12 ∷ 13 ∷ 14 ∷ 15 ∷ 16 �
 -- only 14 moved, whatever is born and used: an ear with no born switch between its ends is answered as before, and the order decides which
 -- refusal is told, not whether there is one
 pub record OnlyMoved (net : Network) (isBorn isUsed : ℕ → Bool) (isFirst : Bool) (e : List ℕ) : Type 0 where
-  pub uncrossed : ((k : ℕ) → k < length e → bornBetween isBorn isFirst e k ≡ false) → verdict net isBorn isUsed isFirst e ≡ verdictBy oldCheckOrder net isBorn isUsed isFirst e
+  pub noneBetween : ((k : ℕ) → k < length e → bornBetween isBorn isFirst e k ≡ false) → verdict net isBorn isUsed isFirst e ≡ verdictBy oldCheckOrder net isBorn isUsed isFirst e
   pub accepts : (vs : List ℕ) → (verdict net isBorn isUsed isFirst e ≡ given vs) ↔ (verdictBy oldCheckOrder net isBorn isUsed isFirst e ≡ given vs)
 
 -- offering the ear e after the accepted ears es
@@ -44,28 +44,28 @@ module _ (net : Network) (es : Ears) (e : List ℕ) where
   BornBetween = (k : ℕ) × (0 < k) × (suc k < length e) × (born es (at e k) ≡ true)
 
   -- the two cases of the note
-  abbrev pub LongOverUsed : Type 0
-  LongOverUsed = LaterPast10 × (3 ≤ length e) × UsedLink
+  abbrev pub UsedLinkCase : Type 0
+  UsedLinkCase = LaterPast10 × (3 ≤ length e) × UsedLink
 
-  abbrev pub CrossedFromUnborn : Type 0
-  CrossedFromUnborn = LaterPast10 × UnbornEnd × BornBetween × (UsedLink → ⊥)
+  abbrev pub UnbornEndCase : Type 0
+  UnbornEndCase = LaterPast10 × UnbornEnd × BornBetween × (UsedLink → ⊥)
 
-  -- the lowest used link, unborn end and born switch between the ends, by the place that is told
+  -- the places of the first used link, unborn end, and born switch between the ends
   abbrev pub firstUsed : ℕ
   firstUsed = low (usedAlready net (used net es) e) (pred (length e))
 
   abbrev pub firstUnborn : ℕ
   firstUnborn = low (unbornEnd (born es) false e) (length e)
 
-  abbrev pub firstCrossed : ℕ
-  firstCrossed = low (bornBetween (born es) false e) (length e)
+  abbrev pub firstBorn : ℕ
+  firstBorn = low (bornBetween (born es) false e) (length e)
 
-  -- the answer `new` differs from the old one in these two cases, and 11 is given for ears of two numbers only
-  pub record CrossedFirst (new : Answer) : Type 0 where
-    pub from11 : LongOverUsed → (oldAnswerTo ≡ refused 11 firstUsed) × (new ≡ refused 14 firstCrossed)
-    pub from13 : CrossedFromUnborn → (oldAnswerTo ≡ refused 13 firstUnborn) × (new ≡ refused 14 firstCrossed)
-    pub others : (LongOverUsed → ⊥) → (CrossedFromUnborn → ⊥) → new ≡ oldAnswerTo
+  -- the answer `new` differs from the old one in these two cases and no other, and 11 is given for ears of two numbers only
+  pub record ChangedAnswers (new : Answer) : Type 0 where
+    pub from11 : UsedLinkCase → (oldAnswerTo ≡ refused 11 firstUsed) × (new ≡ refused 14 firstBorn)
+    pub from13 : UnbornEndCase → (oldAnswerTo ≡ refused 13 firstUnborn) × (new ≡ refused 14 firstBorn)
+    pub others : (UsedLinkCase → ⊥) → (UnbornEndCase → ⊥) → new ≡ oldAnswerTo
     pub only11 : (place : ℕ) → new ≡ refused 11 place → length e ≡ 2
 
-abbrev pub ToldFirst : Type 0
-ToldFirst = (net : Network) (es : Ears) (e : List ℕ) → Accepted net es → CrossedFirst net es e (answerTo net es e)
+abbrev pub AnswersChanged : Type 0
+AnswersChanged = (net : Network) (es : Ears) (e : List ℕ) → Accepted net es → ChangedAnswers net es e (answerTo net es e)
