@@ -8,16 +8,16 @@ use Prim.Native.Nat.{ℕ, zero, suc, pred, _≤_, _<_}
 use native.Mathlib.Omega.{arith}
 use lib.Dec.{eqb}
 use lib.ListN.{length, drop}
-use borrow.Author.Tests.{ltb-false, ne-eqb, eq-eqb, not-true, not-false}
-use Rattle.mondschein.specs.Network.{low, any, Network, at, holds, joins, joined, passes, linkOf, Ears, earAt, born, trail, used, newCount}
-use Rattle.mondschein.specs.Judge.{Answer, given, Check, refused, numbered, checked, earChecks, checkOrder, wrongLength, notJoined, usedAlready, wrongCycle, unbornEnd, bornBetween, verdictBy, verdict}
+use borrow.Author.Tests.{ltb-false, ne-eqb, eq-eqb, not-true}
+use Rattle.mondschein.specs.Network.{low, any, Network, at, holds, joins, passes, linkOf, Ears, earAt, born, trail, used, newCount}
+use Rattle.mondschein.specs.Judge.{Answer, given, Check, refused, numbered, checked, earChecks, checkOrder, wrongLength, usedAlready, wrongCycle, unbornEnd, bornBetween, verdictBy, verdict}
 use Rattle.mondschein.specs.EmptyEar.{isEmpty, entering, answerTo}
 use Rattle.mondschein.specs.CheckOrder.{oldCheckOrder, OnlyMoved, oldAnswerTo, LaterPast10, UsedLink, UnbornEnd, BornBetween, UsedLinkCase, UnbornEndCase, firstUsed, firstUnborn, firstBorn, ChangedAnswers, AnswersChanged}
 use Rattle.mondschein.proofs.Logic.{which, clash, less?, and-true, true-and, or-false}
 use Rattle.mondschein.proofs.Search.{any-true, any-false}
 use Rattle.mondschein.proofs.Links.{passes-held, trail-held, link-found}
 use Rattle.mondschein.proofs.Checks.{never, before, without, Passes, AllPass, all-none, all-more, checked-append, checked-either, checked-given, checked-pass, checked-refused, checked-found, checked-without, append-refused}
-use Rattle.mondschein.proofs.Passed.{new-between, between-new, end-new, new-end}
+use Rattle.mondschein.proofs.Passed.{all-joined, new-between, between-new, end-new, new-end}
 use Rattle.mondschein.proofs.Births.{Passing, accepted-passing, ear-two, at-born}
 use Rattle.mondschein.proofs.EmptyEar.{some-not-empty}
 
@@ -67,14 +67,10 @@ module _ (net : Network) (es : Ears) (acc : Passing net es) (e : List ℕ) where
   unfolding verdictBy
   past10 (_, q) = checked-given cs (7 ∷ 8 ∷ 9 ∷ 10 ∷ []) _ _ q .0
 
-  linked : Passes cs 10 → (k : ℕ) → suc k < length e → joined net (at e k) (at e (suc k)) ≡ true
-  unfolding numbered earChecks notJoined
-  linked c k l = not-false _ (c k (let h : k < pred (length e) = omega arith in h))
-
   -- a long one over a used link runs through a born switch
   born-between : Passes cs 10 → 3 ≤ length e → UsedLink net es e → BornBetween net es e
-  born-between c three (zero, l, u) = (1, omega arith, omega arith, used-born net es acc _ _ _ u (link-found net _ _ (linked c 0 l) .1) .1)
-  born-between c three (suc k, l, u) = (suc k, omega arith, l, used-born net es acc _ _ _ u (link-found net _ _ (linked c (suc k) l) .1) .0)
+  born-between c three (zero, l, u) = (1, omega arith, omega arith, used-born net es acc _ _ _ u (link-found net _ _ (all-joined net (born es) (used net es) false e c 0 l) .1) .1)
+  born-between c three (suc k, l, u) = (suc k, omega arith, l, used-born net es acc _ _ _ u (link-found net _ _ (all-joined net (born es) (used net es) false e c (suc k) l) .1) .0)
 
   -- what the tests of 11, 13 and 14 find
   between-found : BornBetween net es e → (k : ℕ) × (k < length e) × (bornBetween (born es) false e k ≡ true)

@@ -59,6 +59,15 @@ new-end c k (inl z) = false-and (ltb 0 k) _ (λ t. absurd (omega (arith, ltb-tru
 new-end c k (inr z) = false-and (ltb 0 k) _ (λ t. le-ltb (suc k) c (omega arith))
 
 module _ (net : Network) (isBorn isUsed : ℕ → Bool) (b : Bool) (e : List ℕ) where
+  -- what 8 and 10 say where they pass
+  pub all-below : Passes (earChecks net isBorn isUsed b e) 8 → (k : ℕ) → k < length e → at e k < net .n
+  unfolding numbered earChecks tooLarge
+  all-below c k l = leb-false (net .n) (at e k) (c k l)
+
+  pub all-joined : Passes (earChecks net isBorn isUsed b e) 10 → (k : ℕ) → suc k < length e → joined net (at e k) (at e (suc k)) ≡ true
+  unfolding numbered earChecks notJoined
+  all-joined c k l = not-false _ (c k (let h : k < pred (length e) = omega arith in h))
+
   -- 16 does not ask last
   last-exempt : (k : ℕ) → at e k ≡ net .last → noneUnborn net isBorn b e k ≡ false
   unfolding noneUnborn
@@ -76,13 +85,13 @@ module _ (net : Network) (isBorn isUsed : ℕ → Bool) (b : Bool) (e : List ℕ
       record {
         atLeast = atLeast;
         fits = ltb-false _ _ fit;
-        below = λ k l. leb-false (net .n) (at e k) (c 8 refl k l);
+        below = all-below (c 8 refl);
         simple = λ j k l m h.
             ⊎-elim
             (λ w. absurd (eqb-false (at e j) (at e k) (any-false _ k (c 9 refl k m) j w) h))
             (⊎-elim (λ w. absurd (eqb-false (at e k) (at e j) (any-false _ j (c 9 refl j l) k w) (sym h))) (λ w. w))
             (trichotomy j k);
-        linked = λ k l. not-false _ (c 10 refl k (pair k l));
+        linked = all-joined (c 10 refl);
         unused = λ k l. c 11 refl k (pair k l);
         cycle = λ z. let (x, y) = and-true _ _ (not-false _ (and-false b _ (c 12 refl 0 one) z)) in (eqb-true _ _ x, eqb-true _ _ y);
         ends = λ z. (old (c 13 refl) z 0 (omega arith) (inl refl), old (c 13 refl) z (pred (length e)) (omega arith) (inr refl));
