@@ -220,6 +220,23 @@ unfolding count
 count-all p zero h = refl
 count-all p (suc n) h = rw (h n (omega arith)) (ap suc (count-all p n (λ k l. h k (omega arith))))
 
+-- one number more counts one at the most
+pub count-next : (p : ℕ → Bool) (n : ℕ) → count p (suc n) ≤ suc (count p n)
+count-next p n = ⊎-elim (λ h. omega (arith, count-hit p n h)) (λ h. omega (arith, count-skip p n h)) (which (p n))
+
+-- numbers that pass below n, and one at the most
+pub count-some : (p : ℕ → Bool) (n : ℕ) → 0 < count p n → (k : ℕ) × (k < n) × (p k ≡ true)
+count-some p n h = ⊎-elim (any-true p n) (λ f. absurd (omega (arith, count-none p n (any-false p n f)))) (which (any p n))
+
+pub count-once : (p : ℕ → Bool) (c n : ℕ) → ((k : ℕ) → k < n → p k ≡ true → k ≡ c) → count p n ≤ 1
+unfolding count
+count-once p c zero h = omega arith
+count-once p c (suc n) h =
+    ⊎-elim
+    (λ t. omega (arith, count-hit p n t, count-none p n (λ k l. ⊎-elim (λ u. absurd (omega (arith, h k (omega arith) u, h n (omega arith) t))) (λ f. f) (which (p k)))))
+    (λ f. omega (arith, count-skip p n f, count-once p c n (λ k l. h k (omega arith))))
+    (which (p n))
+
 -- a test of one number alone
 pub count-one : (q : ℕ → Bool) (x n : ℕ) → x < n → count (λ y. eqb x y && q y) n ≡ cond (q x) 1 0
 unfolding count

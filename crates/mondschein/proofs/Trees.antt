@@ -60,7 +60,7 @@ module _ (net : Network) (proper : Proper net) (es : Ears) (acc : Passing net es
       (or-true (born (take i es) x) _ (a .1 x m d)))
       (same? x (net .last))
 
-  rise : (i : ℕ) → i < length es → (k : ℕ) → suc k < length (course es i) → position (order es) (at (course es i) k) < position (order es) (at (course es i) (suc k))
+  pub rise : (i : ℕ) → i < length es → (k : ℕ) → suc k < length (course es i) → position (order es) (at (course es i) k) < position (order es) (at (course es i) (suc k))
   rise i l k m =
       subst (λ (z : Ears). position (order z) (at (course es i) k) < position (order z) (at (course es i) (suc k))) (take-length es)
       (grown net es acc (length es) (omega arith) .rising i l k m)
@@ -146,12 +146,12 @@ module _ (net : Network) (proper : Proper net) (es : Ears) (acc : Passing net es
   s = position (order es)
 
   -- two neighbours in a course
-  record Next (i a z : ℕ) : Type 0 where
-    below-z : z < net .n
-    link-az : joined net a z ≡ true
-    up-az : s a < s z
-    old-a : birth es a ≤ i
-    old-z : birth es z ≤ i
+  pub record Next (i a z : ℕ) : Type 0 where
+    pub below-z : z < net .n
+    pub link-az : joined net a z ≡ true
+    pub up-az : s a < s z
+    pub old-a : birth es a ≤ i
+    pub old-z : birth es z ≤ i
 
   next : (i k : ℕ) → i < length es → suc k < length (course es i) → Next i (at (course es i) k) (at (course es i) (suc k))
   next i k b l =
@@ -163,7 +163,8 @@ module _ (net : Network) (proper : Proper net) (es : Ears) (acc : Passing net es
         old-z = birth-le es _ i b (course-held i (suc k) l);
       }
 
-  down : (x : ℕ) → x < net .n → x ≢ net .root → Next (birth es x) (parent1 net es x) x
+  -- the entries in trees 1 and 2 stand beside the switch
+  pub down : (x : ℕ) → x < net .n → x ≢ net .root → Next (birth es x) (parent1 net es x) x
   unfolding parent1
   down x m d =
       let st = stands x m d in
@@ -172,7 +173,7 @@ module _ (net : Network) (proper : Proper net) (es : Ears) (acc : Passing net es
       (subst (λ (z : ℕ). Next (birth es x) (at (birthCourse x) (pred (birthIndex x))) z) (at-same (birthCourse x) _ _ q ∙ st .here)
       (next (birth es x) (pred (birthIndex x)) (st .bounds) (omega (arith, st .inside, st .after))))
 
-  upward : (x : ℕ) → x < net .n → x ≢ net .root → x ≢ net .first → Next (birth es x) x (parent2 net es x)
+  pub upward : (x : ℕ) → x < net .n → x ≢ net .root → x ≢ net .first → Next (birth es x) x (parent2 net es x)
   unfolding parent2
   upward x m d f =
       let st = stands x m d in
@@ -206,7 +207,7 @@ module _ (net : Network) (proper : Proper net) (es : Ears) (acc : Passing net es
         later = (birth es x, birth es y, birth-birth es x (all-born x m), birth-birth es y (all-born y m′), h);
       }
 
-  born-later : (x y : ℕ) → LaterBorn net es x y → birth es x < birth es y
+  pub born-later : (x y : ℕ) → LaterBorn net es x y → birth es x < birth es y
   born-later x y h = let (i, j, b, c, l) = h .later in omega (arith, birth-unique es i x b, birth-unique es j y c)
 
   pub third-rule : Third net es (parent3By net (birth es))
@@ -233,15 +234,15 @@ module _ (net : Network) (proper : Proper net) (es : Ears) (acc : Passing net es
       (λ l. l)
       (less? y (low (λ z. joined net x z && ltb (birth es x) (birth es z)) (net .n))))
 
-  root-birth : birth es (net .root) ≡ 0
+  pub root-birth : birth es (net .root) ≡ 0
   root-birth = omega (arith, birth-le es (net .root) 0 some-ear (root-held net es acc some-ear))
 
-  first-birth : birth es (net .first) ≡ 0
+  pub first-birth : birth es (net .first) ≡ 0
   first-birth =
       let p = first-passed net es acc some-ear in
       omega (arith, birth-le es (net .first) 0 some-ear (holds-by (earAt es 0) _ _ (let l : pred (length (earAt es 0)) < length (earAt es 0) = omega (arith, p .atLeast) in l) (p .cycle refl .1)))
 
-  root-place : s (net .root) ≡ 0
+  pub root-place : s (net .root) ≡ 0
   root-place = subst (λ (z : Ears). position (order z) (net .root) ≡ 0) (take-length es) (grown net es acc (length es) (omega arith) .rooted some-ear)
 
   second : (x : ℕ) → x < net .n → x ≢ net .root → (parent2 net es x < net .n) × (joined net x (parent2 net es x) ≡ true) × (birth es (parent2 net es x) ≤ birth es x)
