@@ -1,0 +1,4 @@
+pub mod Zoning
+pub mod Cut
+pub mod Sizing
+pub mod Statements
