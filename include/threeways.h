@@ -129,6 +129,13 @@ struct threeways_refusal threeways_walk_in(
     const uint16_t *tree3, size_t tree3_count,
     uint16_t switch_number, uint16_t tree, uint16_t *out, size_t out_count, uint16_t *count);
 
+struct threeways_refusal threeways_zones_in(
+    uint16_t stage, uint16_t n, uint16_t m, uint16_t root,
+    uint16_t first, uint16_t last, uint16_t longs, uint16_t born,
+    const uint16_t *births, size_t births_count,
+    const uint16_t *order, size_t order_count,
+    uint16_t size1, uint16_t size2, uint16_t size3, uint16_t *out, size_t out_count);
+
 /* An array of a session as it is passed: the pointer, and the count of its elements. */
 #define THREEWAYS_ARRAY(array) (array), sizeof(array) / sizeof((array)[0])
 
@@ -197,6 +204,17 @@ static inline struct threeways_refusal threeways_walk(const struct threeways_ses
     return threeways_walk_in(s->stage, s->n, s->m, s->root, s->first, s->last, s->longs, s->born,
         THREEWAYS_ARRAY(s->tree1), THREEWAYS_ARRAY(s->tree2), THREEWAYS_ARRAY(s->tree3),
         switch_number, tree, out, room, count);
+}
+
+/* Writes the zone of each switch of a closed session, 1, 2 or 3, by its number into the first n places of `out`, which has room for
+ * `room` numbers; the rest of `out` is left. Root is in zone 1, first in zone 2, last in zone 3; the zones have size1, size2 and size3
+ * switches, and each hangs together by links inside it. Any three sizes of 1 or more that add up to n will do. Refusals, in this order:
+ * 19, 21, then 24 (a size is 0, or the sum is not n) and 18 (room for fewer than n numbers). */
+static inline struct threeways_refusal threeways_zones(const struct threeways_session *s, uint16_t size1, uint16_t size2,
+    uint16_t size3, uint16_t *out, size_t room)
+{
+    return threeways_zones_in(s->stage, s->n, s->m, s->root, s->first, s->last, s->longs, s->born,
+        THREEWAYS_ARRAY(s->births), THREEWAYS_ARRAY(s->order), size1, size2, size3, out, room);
 }
 
 #ifdef __cplusplus

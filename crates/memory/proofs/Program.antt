@@ -1,5 +1,5 @@
 -- The memory of struct threeways_session is the session to whoever calls: after any list of calls from zeros it is the memory of the session
--- that the same calls leave. So the statements of Demands.antt hold of it.
+-- that the same calls leave. So the statements of Demands.antt hold of it, and those of the zones call.
 use mathlib.Core.Path.{_≡_, refl, sym, ap, _∙_, subst}
 use mathlib.Core.Bool.{false}
 use mathlib.Core.Logic.{⊎-elim, inl, inr}
@@ -19,7 +19,7 @@ use Rattle.mondschein.proofs.WholeList.{given-values, offering-given, offering-
 use Rattle.machine.specs.Machine.{Call, load, ear, ears, close, clear, session}
 use Rattle.machine.specs.Demands.{Refusal, offerBy, Demand1, OneByOne, Promises}
 use Rattle.machine.proofs.OneByOne.{Leaves, lists-of}
-use Rattle.machine.proofs.Implementation.{Implements, promises-of}
+use Rattle.machine.proofs.Implementation.{Implements, history-of, promises-of}
 use Rattle.in_place.specs.declared.Stage.{Stage}
 use Rattle.in_place.specs.declared.Stage.the-variants.{Empty, Open, Closed}
 use Rattle.in_place.specs.declared.Session.{Session}
@@ -31,8 +31,11 @@ use Rattle.session.specs.Program.{keptOrder, sizeIn, sessionProgram}
 use Rattle.session.proofs.Refuses.{refuses}
 use Rattle.session.proofs.Demand1.{demand1 as session-demand1}
 use Rattle.session.proofs.Implements.{implements as session-implements}
+use Rattle.zones.proofs.Calls.{zones-through}
+use Rattle.zoning.specs.Zoning.{zonedBy}
+use Rattle.zoning.proofs.Calls.{zones-call}
 use Rattle.memory.specs.Memory.{Memory, stageOf, stageNumber, sessionAt, memoryOf, inMemory, refusalOf, endOf}
-use Rattle.memory.specs.Program.{singleIn, calledIn, memoryProgram, Keeps, ZeroSucceeds}
+use Rattle.memory.specs.Program.{singleIn, calledIn, memoryProgram, Keeps, ZeroSucceeds, ZonesInMemory}
 
 -- the memory of a session means that session
 stage-kept : (x : Stage) → stageOf (stageNumber x) ≡ x
@@ -124,6 +127,12 @@ demand1 =
 pub promises : Promises memoryProgram
 promises = promises-of memoryProgram implements demand1 one-by-one
 
+-- and so do its zones
+pub zones-in-memory : ZonesInMemory
+zones-in-memory =
+    zones-through sessionProgram memoryProgram sessionAt meant
+    (λ cs. history-of memoryProgram implements cs ∙ sym (history-of sessionProgram session-implements cs)) (λ s. s .n) zonedBy zones-call
+
 -- number 0 is no refusal
 not-zero : {X : Type 0} (nums : List ℕ) → In nums 0 → holds nums 0 ≡ false → X
 not-zero nums i n = clash (in-holds nums 0 i) n
@@ -166,4 +175,9 @@ zero-succeeds =
           (λ (num, q, i). not-zero (17 ∷ 18 ∷ 19 ∷ 21 ∷ [])
           (subst (In (17 ∷ 18 ∷ 19 ∷ 21 ∷ [])) (same-number num 0 place (ap (λ (o : Outcome (List ℕ)). o .answer) q) z) i) refl)
           (demand1 .walks mem v t out);
+      zones = λ mem n₁ n₂ n₃ out place z.
+          ⊎-elim (λ (q, l). never (sym z ∙ q))
+          (λ (num, q, i). not-zero (18 ∷ 19 ∷ 21 ∷ 24 ∷ [])
+          (subst (In (18 ∷ 19 ∷ 21 ∷ 24 ∷ [])) (same-number num 0 place (ap (λ (o : Outcome (List ℕ)). o .answer) q) z) i) refl)
+          (zones-in-memory .demand1 mem n₁ n₂ n₃ out);
     }

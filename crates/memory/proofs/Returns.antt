@@ -202,7 +202,7 @@ module _ (mem : Memory) where
         output = n ∙ sym (ap (outputOf out) same);
       }
 
--- the lengths of what is lent to close, to parent and walk, and to ear, beside those of the arrays that are not
+-- the lengths of what is lent to close, to parent and walk, to ear, and to zones, beside those of the arrays that are not
 pub lengths-close : (l u b o p q t : ℕ) → o ≡ 1024 → p ≡ 1024 → q ≡ 1024 → wrongLengths l u b o p q t ≡ wrongLengths l u b 1024 1024 1024 t
 lengths-close l u b o p q t x y z = simp (x, y, z)
 
@@ -211,6 +211,9 @@ lengths-trees l u b o p q t x y z w = simp (x, y, z, w)
 
 pub lengths-ear : (l u b o p q t : ℕ) → t ≡ 1024 → wrongLengths l u b o p q t ≡ wrongLengths l u b o p q 1024
 lengths-ear l u b o p q t x = simp x
+
+pub lengths-zones : (l u b o p q t : ℕ) → l ≡ 8192 → u ≡ 4096 → p ≡ 1024 → q ≡ 1024 → t ≡ 1024 → wrongLengths l u b o p q t ≡ wrongLengths 8192 4096 b o 1024 1024 1024
+lengths-zones l u b o p q t x y z v w = simp (x, y, z, v, w)
 
 -- lengths that are not wrong are the struct's
 pub right : (l u b o p q t : ℕ) → wrongLengths l u b o p q t ≡ false

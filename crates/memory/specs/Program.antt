@@ -12,6 +12,8 @@ use Rattle.in_place.specs.Session.{zeros}
 use Rattle.in_place.specs.Queries.{parentBy, walkedBy}
 use Rattle.session.specs.Calls.{called}
 use Rattle.session.specs.Program.{keptOrder, sizeIn}
+use Rattle.zones.specs.Statements.{ZonesCall}
+use Rattle.zoning.specs.Zoning.{zonedBy}
 use Rattle.memory.specs.Memory.{Memory, numbersBy, memoryBy, sessionAt, memoryOf, inMemory}
 
 -- a call of the session that the memory means
@@ -53,3 +55,8 @@ pub record ZeroSucceeds : Type 0 where
   pub lists : (mem : Memory) (l : List ℕ) (k place : ℕ) → calledIn mem (ears l) .answer ≡ nextRefused k 0 place → ⊥
   pub parents : (mem : Memory) (v t place : ℕ) → parentBy (sessionAt mem) v t ≡ refused 0 place → ⊥
   pub walks : (mem : Memory) (v t : ℕ) (out : List ℕ) (place : ℕ) → walkedBy (sessionAt mem) v t out .answer ≡ refused 0 place → ⊥
+  pub zones : (mem : Memory) (n₁ n₂ n₃ : ℕ) (out : List ℕ) (place : ℕ) → zonedBy (sessionAt mem) n₁ n₂ n₃ out .answer ≡ refused 0 place → ⊥
+
+-- the zones of the session that the memory means keep the promises of document 02, Note 4
+abbrev pub ZonesInMemory : Type 0
+ZonesInMemory = ZonesCall memoryProgram (λ mem. mem .numbers .n) (λ mem. zonedBy (sessionAt mem))

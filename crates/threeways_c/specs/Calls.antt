@@ -8,6 +8,7 @@ use Rattle.mondschein.specs.Network.{Network}
 use Rattle.mondschein.specs.Outcome.{Outcome}
 use Rattle.machine.specs.Machine.{Call, load, ear, ears, close, clear}
 use Rattle.in_place.specs.Queries.{parentBy, walkedBy}
+use Rattle.zoning.specs.Zoning.{zonedBy}
 use Rattle.memory.specs.declared.Refusal.{Refusal}
 use Rattle.memory.specs.Memory.{Memory, sessionAt, wrongIn, sized, Returns, Gives, GivesList}
 use Rattle.memory.specs.Program.{calledIn}
@@ -50,3 +51,9 @@ abbrev pub WritesWalk : (List ℕ → List ℕ → List ℕ → List ℕ → Mem
 WritesWalk mem switch tree out old r out′ new = (links used births order : List ℕ) → length links ≡ 8192 → length used ≡ 4096 → Row births → Row order
     → (let mem = mem links used births order in
     Gives (sized (wrongIn mem) out (walkedBy (sessionAt mem) switch tree out)) old r out′ new)
+
+-- zones, whatever the arrays beside births and order hold; there is no output
+abbrev pub WritesZones : (List ℕ → List ℕ → List ℕ → List ℕ → List ℕ → Memory) → ℕ → ℕ → ℕ → List ℕ → Refusal → List ℕ → Type 0
+WritesZones mem n₁ n₂ n₃ out r out′ = (links used tree1 tree2 tree3 : List ℕ) → length links ≡ 8192 → length used ≡ 4096 → Row tree1 → Row tree2 → Row tree3
+    → (let mem = mem links used tree1 tree2 tree3 in
+    Returns (sized (wrongIn mem) out (zonedBy (sessionAt mem) n₁ n₂ n₃ out)) r out′)

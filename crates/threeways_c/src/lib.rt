@@ -12,9 +12,10 @@ use network::Load;
 use offering::EarList;
 use walks::Parent;
 use walks::Walk;
+use zoning::Zoned;
 ghost use Rattle.network.specs.Load.{networkOf};
 ghost use Rattle.memory.specs.Memory.{numbersBy, memoryBy};
-ghost use Rattle.threeways_c.specs.Calls.{Clears, Loads, Offers, Lists, Closes, Tells, WritesWalk};
+ghost use Rattle.threeways_c.specs.Calls.{Clears, Loads, Offers, Lists, Closes, Tells, WritesWalk, WritesZones};
 
 // Clears the session: always succeeds.
 #[no_mangle]
@@ -427,5 +428,46 @@ pub extern "C" fn threeways_walk_in(
                 place: 0,
             }
         }
+    }
+}
+
+// Writes the zone of each switch into the first N places of the slice, zones 1, 2 and 3 of the sizes wanted: 19 on an empty session, 21 on an
+// open one, then checks 24 and 18.
+#[no_mangle]
+pub extern "C" fn threeways_zones_in(
+    stage: u16,
+    n: u16,
+    m: u16,
+    root: u16,
+    first: u16,
+    last: u16,
+    longs: u16,
+    born: u16,
+    births: &[u16],
+    order: &[u16],
+    size1: u16,
+    size2: u16,
+    size3: u16,
+    out: &mut [u16],
+) -> Refusal
+    ensures { λ r. ⌜ WritesZones
+        (λ links used tree1 tree2 tree3. memoryBy (numbersBy stage n m root first last longs born)
+        links used (now (births .entry)) (now (order .entry)) tree1 tree2 tree3)
+        size1 size2 size3 (now (out .entry)) r (now (out .exit)) ⌝ }
+{
+    if memory::wrong_lengths(LINKS, MARKS, births.len(), order.len(), ROW, ROW, ROW) {
+        return Refusal {
+            number: LENGTHS,
+            place: 0,
+        };
+    }
+    let st = memory::state_of(stage, n, m, root, first, last, longs, born);
+    let answer = zoning::zones_in(st, births, order, size1, size2, size3, out);
+    match answer {
+        Zoned::Refused(number, place) => Refusal { number, place },
+        Zoned::Written => Refusal {
+            number: 0,
+            place: 0,
+        },
     }
 }
