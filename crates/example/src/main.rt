@@ -1,5 +1,6 @@
-// The worked example of document 01, its cards i and l and the cards below them, and lists of ears, through the session's calls.
-// Each answer is written as the lines of document 01 write it, that of parent as (parent switch tree entry), that of a list as (accepted ears).
+// The worked example of document 01, its cards i and l and the cards below them, zones of card k, and lists of ears, through the calls.
+// Each answer is written as the lines of document 01 write it, that of parent as (parent switch tree entry), that of zones as (zones sizes (zone
+// of each switch)), that of a list as (accepted ears).
 use closing::Close;
 use judge::Ear;
 use network::Load;
@@ -7,6 +8,7 @@ use offering::EarList;
 use session::Session;
 use walks::Parent;
 use walks::Walk;
+use zoning::Zoned;
 
 // The numbers of a list, at most so many as the count, one space between them.
 fn write_list(list: &[u16], count: usize) {
@@ -128,6 +130,22 @@ fn routes(s: Session, switch: u16) {
     parent(s, switch, 3);
 }
 
+// Writes what zones of card k answers, and the zone of each switch out of the slice.
+fn zones(s: Session, n1: u16, n2: u16, n3: u16) {
+    let mut out = [0u16; 6];
+    let answer = zoning::zones(s, n1, n2, n3, &mut out);
+    match answer {
+        Zoned::Written => {
+            io::write_all(1, b"(zones ");
+            write_list(&[n1, n2, n3], 3);
+            io::write_all(1, b" (");
+            write_list(&out, 6);
+            io::write_all(1, b"))\n");
+        }
+        Zoned::Refused(number, place) => write_refusal(number, place),
+    }
+}
+
 // The worked example.
 fn worked_example() {
     let links: [u16; 12] = [0, 1, 0, 2, 0, 3, 1, 2, 1, 3, 2, 3];
@@ -166,7 +184,7 @@ fn first_network() {
     parent(s, 2, 0);
 }
 
-// On the network of card k: card l, and the walks of 3.
+// On the network of card k: card l, the walks of 3, and zones: between two ears, through the first ear, and sizes that are refused.
 fn second_network() {
     let links: [u16; 20] = [0, 1, 0, 2, 1, 2, 1, 3, 2, 3, 3, 4, 3, 5, 4, 5, 0, 4, 0, 5];
     let mut s = load(6, &links, 0, 1, 5);
@@ -178,6 +196,10 @@ fn second_network() {
     s = close(s);
     routes(s, 5);
     routes(s, 3);
+    zones(s, 2, 2, 2);
+    zones(s, 1, 1, 4);
+    zones(s, 3, 3, 0);
+    zones(s, 65535, 1, 6);
 }
 
 // Lists of ears on the first network: one that ends at a refused ear, one that ends at a count past its end, and an empty ear, which takes
