@@ -1,9 +1,9 @@
-//! The static archive of the first program as its header for C declares it: a session's memory, and the seven functions.
+//! The static archive of the first program as its header for C declares it: a session's memory, and the eight functions.
 //! `Session::parts` lends what the header's wrappers lend; the arrays of other `Parts` may have any length.
 
 use std::ptr::NonNull;
 
-use crate::network::{MAX_LINKS, MAX_SWITCHES};
+use crate::network::{Site, MAX_LINKS, MAX_SWITCHES};
 
 /// The memory of a session: the header's struct.
 #[repr(C)]
@@ -128,6 +128,14 @@ extern "C" {
         tree3: In<u16>, tree3_count: usize,
         switch_number: u16, tree: u16, out: Out<u16>, out_count: usize, count: Out<u16>,
     ) -> Refusal;
+
+    fn threeways_zones_in(
+        stage: u16, n: u16, m: u16, root: u16,
+        first: u16, last: u16, longs: u16, born: u16,
+        births: In<u16>, births_count: usize,
+        order: In<u16>, order_count: usize,
+        size1: u16, size2: u16, size3: u16, out: Out<u16>, out_count: usize,
+    ) -> Refusal;
 }
 
 /// The parts of a session: its numbers as the struct has them, and its arrays.
@@ -158,15 +166,14 @@ macro_rules! call {
     };
 }
 
-/// The same with the numbers by value and the three trees for reading.
+/// The same with the numbers by value and the arrays for reading.
 macro_rules! read {
-    ($function:ident, $parts:ident $(, $more:expr)*) => {{
+    ($function:ident, $parts:ident, [$($array:ident),*] $(, $more:expr)*) => {{
         let [stage, n, m, root, first, last, longs, born] = &$parts.numbers;
-        let (tree1, tree2, tree3) = (&*$parts.tree1, &*$parts.tree2, &*$parts.tree3);
         unsafe {
             $function(
                 **stage, **n, **m, **root, **first, **last, **longs, **born,
-                start(tree1), tree1.len(), start(tree2), tree2.len(), start(tree3), tree3.len(), $($more),*
+                $(start($parts.$array), $parts.$array.len(),)* $($more),*
             )
         }
     }};
@@ -234,12 +241,17 @@ impl Parts<'_> {
     }
 
     pub fn parent(&self, switch: u16, tree: u16, entry: &mut u16) -> Refusal {
-        read!(threeways_parent_in, self, switch, tree, entry)
+        read!(threeways_parent_in, self, [tree1, tree2, tree3], switch, tree, entry)
     }
 
     pub fn walk(&self, switch: u16, tree: u16, out: &mut [u16], count: &mut u16) -> Refusal {
         let (out, room) = (start_mut(out), out.len());
-        read!(threeways_walk_in, self, switch, tree, out, room, count)
+        read!(threeways_walk_in, self, [tree1, tree2, tree3], switch, tree, out, room, count)
+    }
+
+    pub fn zones(&self, [size1, size2, size3]: [u16; 3], out: &mut [u16]) -> Refusal {
+        let (out, room) = (start_mut(out), out.len());
+        read!(threeways_zones_in, self, [births, order], size1, size2, size3, out, room)
     }
 }
 
@@ -298,6 +310,14 @@ impl Session {
             tree2: &mut self.tree2,
             tree3: &mut self.tree3,
         }
+    }
+
+    /// The site whose network is loaded.
+    pub fn site(&self) -> Site {
+        let Session { n, m, root, first, last, links, .. } = self;
+        let pairs = links.chunks_exact(2).take((*m).into());
+        let links = pairs.map(|two| (two[0], two[1])).collect();
+        Site { switches: *n, root: *root, first: *first, last: *last, links }
     }
 
     /// The session that these numbers are.

@@ -1,5 +1,6 @@
 //! Definition 9 of document 000 as document 01 words it, and demand 3, over whole lists and by trying everything; and
-//! the cases of document 02, Note 3. It shares no code with the judge and knows nothing of refusal numbers.
+//! of document 02 the cases of Note 3 and the zones of Note 4. It shares no code with the judge and knows nothing of
+//! refusal numbers.
 
 use std::collections::HashSet;
 
@@ -273,4 +274,50 @@ pub fn are_spanning_trees(site: &Site, tables: &[Vec<u16>; 3]) -> Result<(), Str
         Some((link, _)) => Err(format!("link {link:?} lies in all three trees")),
         None => Ok(()),
     }
+}
+
+/// Document 02, Note 4, of the zones of all switches: they are 1 to 3, root, first and last are in zones 1, 2 and 3,
+/// the sizes are as wanted, and from these three switches every other is reached along links inside its zone.
+pub fn are_zones(site: &Site, sizes: [u16; 3], zones: &[u16]) -> Result<(), String> {
+    if zones.len() != site.switches as usize {
+        return Err(format!("{} zones for {} switches", zones.len(), site.switches));
+    }
+    if let Some(s) = zones.iter().position(|zone| !(1..=3).contains(zone)) {
+        return Err(format!("switch {s} is in zone {}", zones[s]));
+    }
+    for (named, zone) in [(site.root, 1), (site.first, 2), (site.last, 3)] {
+        if zones[named as usize] != zone {
+            return Err(format!("switch {named} is in zone {}, not {zone}", zones[named as usize]));
+        }
+    }
+    for (zone, wanted) in (1..).zip(sizes) {
+        let size = zones.iter().filter(|&&other| other == zone).count();
+        if size != wanted as usize {
+            return Err(format!("zone {zone} has {size} switches, not {wanted}"));
+        }
+    }
+    let reached = reached_inside(site, zones);
+    match reached.iter().position(|&reached| !reached) {
+        Some(s) => Err(format!("switch {s} does not hang together with zone {}", zones[s])),
+        None => Ok(()),
+    }
+}
+
+/// For each switch whether it is reached from root, first or last along links that join two switches of one zone.
+fn reached_inside(site: &Site, zones: &[u16]) -> Vec<bool> {
+    let mut near = vec![Vec::new(); zones.len()];
+    for &(a, b) in &site.links {
+        if zones[a as usize] == zones[b as usize] {
+            near[a as usize].push(b);
+            near[b as usize].push(a);
+        }
+    }
+    let mut reached = vec![false; zones.len()];
+    let mut next = vec![site.root, site.first, site.last];
+    while let Some(s) = next.pop() {
+        if !std::mem::replace(&mut reached[s as usize], true) {
+            next.extend(&near[s as usize]);
+        }
+    }
+    reached
 }

@@ -1,10 +1,12 @@
-//! Every list of ears on a small site: all lists of paths that part the links
+//! Small sites, and every list of ears on one: all lists of paths that part the links
 //! other than root-first, in every sequence, tried one after the other. At
 //! most one empty ear stands among them, at any place; it takes links as if
-//! every ear before it were accepted.
+//! every ear before it were accepted. And every list of long ears that closes.
 
+use crate::judge::Judge;
 use crate::lines::ear_line;
-use crate::network::Site;
+use crate::network::{Network, Site};
+use crate::Plant;
 
 /// The four-switch network of document 01.
 pub fn worked_site() -> Site {
@@ -15,6 +17,64 @@ pub fn worked_site() -> Site {
 pub fn wheel_site() -> Site {
     let links = vec![(0, 1), (0, 2), (0, 3), (0, 4), (1, 2), (2, 3), (3, 4), (4, 1)];
     Site { switches: 5, root: 0, first: 1, last: 2, links }
+}
+
+/// The network of card k.
+pub fn card_k_site() -> Site {
+    let links = vec![(0, 1), (0, 2), (1, 2), (1, 3), (2, 3), (3, 4), (3, 5), (4, 5), (0, 4), (0, 5)];
+    Site { switches: 6, root: 0, first: 1, last: 5, links }
+}
+
+/// So many switches, each two joined; root 0, first 1, and the highest is last.
+pub fn all_joined(switches: u16) -> Site {
+    let links = (0..switches).flat_map(|a| (a + 1..switches).map(move |b| (a, b))).collect();
+    Site { switches, root: 0, first: 1, last: switches - 1, links }
+}
+
+/// The judge of a site that is a network.
+pub fn judge_of(site: &Site) -> Judge {
+    Judge::new(Network::load(site).expect("the site is a network"), Plant::Nothing)
+}
+
+/// Every path of two or more switches, written from both ends.
+pub fn paths(site: &Site) -> Vec<Vec<u16>> {
+    let network = Network::load(site).expect("the site is a network");
+    let mut paths: Vec<Vec<u16>> = (0..site.switches).map(|s| vec![s]).collect();
+    let mut at = 0;
+    while at < paths.len() {
+        let path = paths[at].clone();
+        let near = network.neighbours(path[path.len() - 1]).iter().map(|other| other.switch);
+        paths.extend(near.filter(|s| !path.contains(s)).map(|s| [&path[..], &[s]].concat()));
+        at += 1;
+    }
+    paths.retain(|path| path.len() > 1);
+    paths
+}
+
+/// Calls `each` with every list of long ears in which every switch is born: an empty ear and close can follow. Later
+/// ears are written from the lower end only.
+pub fn every_closed_list(site: &Site, each: &mut dyn FnMut(&[Vec<u16>])) {
+    let mut paths = paths(site);
+    paths.retain(|path| path.len() > 2);
+    longer_lists(judge_of(site), &mut Vec::new(), paths.iter().collect(), each);
+}
+
+/// Goes on with a list that the judge has accepted; `paths` has the ears that may follow it.
+fn longer_lists(judge: Judge, list: &mut Vec<Vec<u16>>, paths: Vec<&Vec<u16>>, each: &mut dyn FnMut(&[Vec<u16>])) {
+    if (0..judge.network.switches as u16).all(|s| judge.is_born(s)) {
+        each(list);
+    }
+    for &ear in &paths {
+        let mut next = judge.clone();
+        if next.ear(ear).is_ok() {
+            let unborn = |between: &[u16]| !between.iter().any(|&s| next.is_born(s));
+            let follows = |path: &[u16]| path[0] < path[path.len() - 1] && unborn(&path[1..path.len() - 1]);
+            let paths = paths.iter().copied().filter(|path| follows(path)).collect();
+            list.push(ear.clone());
+            longer_lists(next, list, paths, each);
+            list.pop();
+        }
+    }
 }
 
 /// Calls `each` with every list. The first ear is written from both ends,

@@ -242,6 +242,16 @@ impl Judge {
         }
     }
 
+    /// For each switch the number of the long ear that it was born in, from 1; 0 where it is unborn.
+    pub fn births(&self) -> Vec<u16> {
+        let mut births = vec![0; self.network.switches];
+        for (at, ear) in self.long_ears.iter().enumerate() {
+            let new = if at == 0 { &ear[..] } else { &ear[1..ear.len() - 1] };
+            new.iter().for_each(|&s| births[s as usize] = at as u16 + 1);
+        }
+        births
+    }
+
     pub fn plant(&self) -> Plant {
         self.plant
     }

@@ -3,10 +3,10 @@
 //! The judge and the dialogue:
 //! `lines` reads a line, `dialogue` answers a whole input, `session` is the
 //! machine of three stages, `network` has the checks of loading, `judge` the
-//! checks of ears, `order` and `tables` what a closed list gives.
+//! checks of ears, `order`, `tables` and `zones` what a closed list gives.
 //!
 //! What checks them:
-//! `brute` has Definition 9 and demand 3 over whole lists, `follow` holds an
+//! `brute` has Definition 9, demand 3 and zones over whole lists, `follow` holds an
 //! output against them, `seen` counts what has to be seen, `random`, `plan`, `damage` and `script` make inputs,
 //! `compare` and `shrink` find a difference and make it small.
 //!
@@ -34,6 +34,7 @@ pub mod seen;
 pub mod session;
 pub mod shrink;
 pub mod tables;
+pub mod zones;
 
 /// A refusal is a number and a place (document 01, 'Refusals from the input').
 #[derive(Clone, Copy, Debug, PartialEq, Eq)]
@@ -47,7 +48,7 @@ pub fn refuse<T>(number: u8, place: usize) -> Result<T, Refusal> {
     Err(Refusal { number, place })
 }
 
-/// A fault put in on purpose, so that a test can see the comparison find it.
+/// A fault put in on purpose, so that a test can see a comparison find it.
 /// The dialogue program itself always runs with `Plant::Nothing`.
 #[derive(Clone, Copy, Debug, PartialEq, Eq, Default)]
 pub enum Plant {
@@ -63,6 +64,10 @@ pub enum Plant {
     WrongLinks,
     /// The checks of an ear are asked in number order, as before document 02, Note 3.
     WrongOrder,
+    /// The sizes of zones 1 and 2 are exchanged. No line asks for zones: this and the next show in calls alone.
+    WrongSizes,
+    /// A slice too short for the zones is told before wrong sizes.
+    WrongRoom,
 }
 
 impl Plant {
@@ -74,6 +79,8 @@ impl Plant {
             3 => Some(Plant::WrongList),
             4 => Some(Plant::WrongLinks),
             5 => Some(Plant::WrongOrder),
+            6 => Some(Plant::WrongSizes),
+            7 => Some(Plant::WrongRoom),
             _ => None,
         }
     }

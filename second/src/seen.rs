@@ -1,12 +1,12 @@
-//! What both comparisons have to see, by kind: empty ears (document 02, Note 2) by their answer, and crossed ears,
-//! whose answer document 02, Note 3, changed, by what else is wrong with them.
+//! What the comparisons have to see, by kind: empty ears (document 02, Note 2) by their answer, crossed ears, whose
+//! answer document 02, Note 3, changed, by what else is wrong with them, and zones (Note 4) by their answer.
 
 use std::collections::BTreeMap;
 
-/// Ears counted by kind.
+/// Ears or zones counted by kind.
 pub trait Seen {
     /// What is counted.
-    const EAR: &'static str;
+    const WHAT: &'static str;
 
     /// How often each kind was seen.
     fn times(&self) -> Vec<(&'static str, usize)>;
@@ -14,7 +14,7 @@ pub trait Seen {
     /// The kinds that were never seen.
     fn missing(&self) -> Vec<String> {
         let never = self.times().into_iter().filter(|(_, times)| *times == 0);
-        never.map(|(kind, _)| format!("{} {kind}", Self::EAR)).collect()
+        never.map(|(kind, _)| format!("{} {kind}", Self::WHAT)).collect()
     }
 
     /// The counts as they are told.
@@ -44,7 +44,7 @@ impl EmptyEars {
 }
 
 impl Seen for EmptyEars {
-    const EAR: &'static str = "an empty ear";
+    const WHAT: &'static str = "an empty ear";
 
     fn times(&self) -> Vec<(&'static str, usize)> {
         let refused = |number| self.refused.get(&number).copied().unwrap_or(0);
@@ -83,9 +83,52 @@ impl CrossedEars {
 }
 
 impl Seen for CrossedEars {
-    const EAR: &'static str = "a crossed ear";
+    const WHAT: &'static str = "a crossed ear";
 
     fn times(&self) -> Vec<(&'static str, usize)> {
         vec![("over a used link", self.used_link), ("with an unborn end", self.unborn_end)]
+    }
+}
+
+/// Calls for zones. Wrong sizes are counted again where their sum wraps to N, and where the slice is too short besides.
+#[derive(Clone, Debug, Default)]
+pub struct Zones {
+    given: usize,
+    /// By number.
+    refused: BTreeMap<u16, usize>,
+    wrapped: usize,
+    too_short: usize,
+}
+
+impl Zones {
+    /// Counts a call by its answer, with the N of the session and the room that it was lent.
+    pub fn add(&mut self, refused: Option<u16>, sizes: [u16; 3], n: u16, room: usize) {
+        let Some(number) = refused else {
+            self.given += 1;
+            return;
+        };
+        *self.refused.entry(number).or_default() += 1;
+        if number == 24 {
+            let wraps = !sizes.contains(&0) && sizes.iter().fold(0u16, |sum, &size| sum.wrapping_add(size)) == n;
+            self.wrapped += usize::from(wraps);
+            self.too_short += usize::from(room < n.into());
+        }
+    }
+}
+
+impl Seen for Zones {
+    const WHAT: &'static str = "zones";
+
+    fn times(&self) -> Vec<(&'static str, usize)> {
+        let refused = |number| self.refused.get(&number).copied().unwrap_or(0);
+        vec![
+            ("given", self.given),
+            ("refused 18", refused(18)),
+            ("refused 19", refused(19)),
+            ("refused 21", refused(21)),
+            ("refused 24", refused(24)),
+            ("refused 24 for a sum that wraps", self.wrapped),
+            ("refused 24 in a slice too short", self.too_short),
+        ]
     }
 }

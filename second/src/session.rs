@@ -1,10 +1,11 @@
 //! The session of document 01: empty, open or closed, and the refusals from
-//! the state (19 to 22), which come before all others. Of document 02 it has Note 1, the whole list in one call, and
-//! Note 2: after the first ear an empty ear takes the leftover links.
+//! the state (19 to 22), which come before all others. Of document 02 it has Note 1, the whole list in one call,
+//! Note 2: after the first ear an empty ear takes the leftover links, and Note 4, the zones.
 
 use crate::judge::Judge;
 use crate::network::{Network, Site};
 use crate::tables::Tables;
+use crate::zones::{are_sizes, write_zones};
 use crate::{refuse, Plant, Refusal};
 
 #[derive(Debug, Default)]
@@ -76,12 +77,12 @@ impl Session {
     }
 
     pub fn parent(&self, switch: u16, tree: u16) -> Result<u16, Refusal> {
-        Ok(self.closed(switch, tree)?.parent(switch, tree))
+        Ok(self.tables_for(switch, tree)?.parent(switch, tree))
     }
 
     /// The program lends room for every walk, so 18 cannot come up.
     pub fn walk(&self, switch: u16, tree: u16) -> Result<Vec<u16>, Refusal> {
-        Ok(self.closed(switch, tree)?.walk(switch, tree))
+        Ok(self.tables_for(switch, tree)?.walk(switch, tree))
     }
 
     /// The walk that is written into a slice with room for so many numbers.
@@ -93,6 +94,31 @@ impl Session {
         Ok(walk)
     }
 
+    /// Writes the zone of each switch, by its number, into the first N places of the slice.
+    pub fn zones(&self, sizes: [u16; 3], out: &mut [u16]) -> Result<(), Refusal> {
+        let tables = self.tables()?;
+        let n = tables.switches;
+        let mut checks = [(24, !are_sizes(sizes, n)), (18, out.len() < n)];
+        if tables.plant == Plant::WrongRoom {
+            checks.reverse();
+        }
+        if let Some((number, _)) = checks.into_iter().find(|(_, fails)| *fails) {
+            return refuse(number, 0);
+        }
+        let [one, two, three] = sizes;
+        let sizes = if tables.plant == Plant::WrongSizes { [two, one, three] } else { sizes };
+        write_zones(&tables.births, &tables.order, sizes, out);
+        Ok(())
+    }
+
+    /// The zones that are written into a slice with room for so many numbers.
+    pub fn zones_within(&self, sizes: [u16; 3], room: usize) -> Result<Vec<u16>, Refusal> {
+        let mut zones = vec![0; room];
+        self.zones(sizes, &mut zones)?;
+        zones.truncate(self.tables()?.switches);
+        Ok(zones)
+    }
+
     fn open(&mut self) -> Result<&mut Judge, Refusal> {
         match self {
             Session::Empty => refuse(19, 0),
@@ -101,18 +127,22 @@ impl Session {
         }
     }
 
-    /// The tables, when closed, and check 17.
-    fn closed(&self, switch: u16, tree: u16) -> Result<&Tables, Refusal> {
+    /// The tables, when closed.
+    fn tables(&self) -> Result<&Tables, Refusal> {
         match self {
             Session::Empty => refuse(19, 0),
             Session::Open(_) => refuse(21, 0),
-            Session::Closed(tables) => {
-                if switch as usize >= tables.switches || !(1..=3).contains(&tree) {
-                    return refuse(17, 0);
-                }
-                Ok(tables)
-            }
+            Session::Closed(tables) => Ok(tables),
         }
+    }
+
+    /// The same with check 17.
+    fn tables_for(&self, switch: u16, tree: u16) -> Result<&Tables, Refusal> {
+        let tables = self.tables()?;
+        if switch as usize >= tables.switches || !(1..=3).contains(&tree) {
+            return refuse(17, 0);
+        }
+        Ok(tables)
     }
 }
 

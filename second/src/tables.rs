@@ -1,5 +1,5 @@
-//! The three parent tables and the walks of a closed session (document 01,
-//! 'Order, tables and walks').
+//! The order, the three parent tables and the walks of a closed session (document 01,
+//! 'Order, tables and walks'), and its births, from which zones are found.
 
 use crate::judge::Judge;
 use crate::order::Order;
@@ -9,9 +9,13 @@ use crate::Plant;
 pub struct Tables {
     pub switches: usize,
     pub root: u16,
-    pub order: Order,
+    /// The switches in their order.
+    pub order: Vec<u16>,
+    /// For each switch the number of the long ear that it was born in.
+    pub births: Vec<u16>,
     /// Row 0 is tree 1, and so on.
     parents: [Vec<u16>; 3],
+    pub plant: Plant,
 }
 
 impl Tables {
@@ -53,7 +57,14 @@ impl Tables {
         }
 
         let later = (0..n as u16).map(|s| third_parent(judge, s)).collect();
-        Tables { switches: n, root, order, parents: [towards_a, towards_b, later] }
+        Tables {
+            switches: n,
+            root,
+            order: order.to_list(),
+            births: judge.births(),
+            parents: [towards_a, towards_b, later],
+            plant: judge.plant(),
+        }
     }
 
     /// The parent of a switch below N in a tree 1 to 3.

@@ -1,7 +1,7 @@
 //! The bench cards of document 01 and the settled points on reading lines.
 
 use second_reading::dialogue::run_bytes;
-use second_reading::every::{every_list, wheel_site, worked_site};
+use second_reading::every::{card_k_site, every_list, wheel_site, worked_site};
 use second_reading::network::Site;
 use second_reading::session::Session;
 use second_reading::{brute, Plant, Refusal};
@@ -21,12 +21,6 @@ fn after_opening(lines: &str) -> String {
 
 fn site_of(switches: u16, root: u16, first: u16, last: u16, links: &[(u16, u16)]) -> Site {
     Site { switches, root, first, last, links: links.to_vec() }
-}
-
-fn card_k() -> (Site, Vec<Vec<u16>>) {
-    let links = [(0, 1), (0, 2), (1, 2), (1, 3), (2, 3), (3, 4), (3, 5), (4, 5), (0, 4), (0, 5)];
-    let ears = vec![vec![0, 2, 1], vec![2, 3, 1], vec![3, 4, 0], vec![3, 5, 4], vec![0, 5]];
-    (site_of(6, 0, 1, 5, &links), ears)
 }
 
 fn closed(site: &Site, ears: &[Vec<u16>]) -> Session {
@@ -95,13 +89,14 @@ fn card_j() {
 
 #[test]
 fn cards_k_and_l() {
-    let (site, ears) = card_k();
+    let site = card_k_site();
+    let ears = [vec![0, 2, 1], vec![2, 3, 1], vec![3, 4, 0], vec![3, 5, 4], vec![0, 5]];
     let session = closed(&site, &ears);
     assert_eq!(session.walk(5, 1), Ok(vec![5, 4, 0]));
     assert_eq!(session.walk(5, 2), Ok(vec![5, 3, 1, 0]));
     assert_eq!(session.walk(5, 3), Ok(vec![5, 0]));
     let Session::Closed(tables) = session else { panic!("the session is closed") };
-    assert_eq!(tables.order.to_list(), [0, 4, 5, 2, 3, 1]);
+    assert_eq!(tables.order, [0, 4, 5, 2, 3, 1]);
     assert!(brute::is_mondschein(&site, &ears));
 }
 

@@ -4,26 +4,11 @@
 use std::collections::HashSet;
 
 use second_reading::brute;
-use second_reading::every::{wheel_site, worked_site};
+use second_reading::every::{all_joined, card_k_site, judge_of, paths, wheel_site, worked_site};
 use second_reading::judge::Judge;
-use second_reading::network::{Network, Site};
+use second_reading::network::Site;
 use second_reading::seen::{Crossed, CrossedEars, Seen};
-use second_reading::{Plant, Refusal};
-
-/// So many switches, each two joined; root 0, first 1, and the highest is last.
-fn all_joined(switches: u16) -> Site {
-    let links = (0..switches).flat_map(|a| (a + 1..switches).map(move |b| (a, b))).collect();
-    Site { switches, root: 0, first: 1, last: switches - 1, links }
-}
-
-fn card_k() -> Site {
-    let links = vec![(0, 1), (0, 2), (1, 2), (1, 3), (2, 3), (3, 4), (3, 5), (4, 5), (0, 4), (0, 5)];
-    Site { switches: 6, root: 0, first: 1, last: 5, links }
-}
-
-fn judge_of(site: &Site) -> Judge {
-    Judge::new(Network::load(site).unwrap(), Plant::Nothing)
-}
+use second_reading::Refusal;
 
 /// The judge of the site after the ear 0 2 1.
 fn after_first_ear(site: &Site) -> Judge {
@@ -85,21 +70,6 @@ fn checks_7_to_10_still_come_first() {
     }
 }
 
-/// Every path of two or more switches, written from both ends.
-fn paths(site: &Site) -> Vec<Vec<u16>> {
-    let network = Network::load(site).unwrap();
-    let mut paths: Vec<Vec<u16>> = (0..site.switches).map(|s| vec![s]).collect();
-    let mut at = 0;
-    while at < paths.len() {
-        let path = paths[at].clone();
-        let near = network.neighbours(path[path.len() - 1]).iter().map(|other| other.switch);
-        paths.extend(near.filter(|s| !path.contains(s)).map(|s| [&path[..], &[s]].concat()));
-        at += 1;
-    }
-    paths.retain(|path| path.len() > 1);
-    paths
-}
-
 /// Holds one ear against the note: `crossed` is its case by the note's words, after the list.
 fn hold(judge: &mut Judge, list: &[Vec<u16>], ear: &[u16], crossed: Option<Crossed>) {
     let [former, now] = [judge.former_refusal(ear), judge.refusal(ear)];
@@ -156,7 +126,7 @@ fn hold_all(site: &Site) -> CrossedEars {
 
 #[test]
 fn the_answers_that_change_are_the_two_of_the_note() {
-    for site in [wheel_site(), Site { last: 3, ..wheel_site() }, card_k(), all_joined(5), all_joined(6)] {
+    for site in [wheel_site(), Site { last: 3, ..wheel_site() }, card_k_site(), all_joined(5), all_joined(6)] {
         assert_eq!(hold_all(&site).missing(), [""; 0], "{site:?}");
     }
     // Of four switches one is unborn after the first ear, and then every link between born ones is used.

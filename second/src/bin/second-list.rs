@@ -1,10 +1,11 @@
-//! `second-list PLAN` loads the network of a plan and offers its ears as one list, in functions that a profiler finds by
-//! name (`bench/archive`). It prints the count of ears accepted, and ends with 1 where anything is refused.
+//! `second-list PLAN` loads the network of a plan, offers its ears as one list, closes, and asks for the zones of some
+//! sizes, in functions that a profiler finds by name (`bench/archive`). It prints the count of ears accepted, and ends
+//! with 1 where anything is refused.
 
 use std::process::ExitCode;
 
 use second_reading::lines::{read_form, Form};
-use second_reading::network::Site;
+use second_reading::network::{Site, MAX_SWITCHES};
 use second_reading::session::{list_of, Session};
 use second_reading::{Plant, Refusal};
 
@@ -18,6 +19,17 @@ pub fn measured_load(session: &mut Session, site: &Site) -> Result<(usize, usize
 #[inline(never)]
 pub fn measured_ears(session: &mut Session, list: &[u16]) -> (usize, Option<Refusal>) {
     session.ears(list)
+}
+
+#[no_mangle]
+#[inline(never)]
+pub fn measured_zones(session: &Session, sizes: [u16; 3], out: &mut [u16]) -> Result<(), Refusal> {
+    session.zones(sizes, out)
+}
+
+/// The sizes that are asked for, in a network of so many switches.
+fn sizes(n: u16) -> [[u16; 3]; 4] {
+    [[1, 1, n - 2], [n / 3, n / 3, n - 2 * (n / 3)], [n - 2, 1, 1], [1, n - 2, 1]]
 }
 
 /// The site of a plan, and its ears as one list. Other lines are passed over.
@@ -46,8 +58,12 @@ fn main() -> ExitCode {
     let loaded = measured_load(&mut session, &site);
     let (accepted, refusal) = measured_ears(&mut session, &list);
     println!("{accepted}");
-    if loaded.is_err() || refusal.is_some() {
+    let mut zones = [0; MAX_SWITCHES];
+    if loaded.is_err() || refusal.is_some() || session.close().is_err() {
         return ExitCode::FAILURE;
     }
-    ExitCode::SUCCESS
+    match sizes(site.switches).into_iter().all(|sizes| measured_zones(&session, sizes, &mut zones).is_ok()) {
+        true => ExitCode::SUCCESS,
+        false => ExitCode::FAILURE,
+    }
 }

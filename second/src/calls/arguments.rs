@@ -1,4 +1,4 @@
-//! Arguments of calls: ears along links that are left or that memory has, switches, trees and room of any size.
+//! Arguments of calls: ears along links that are left or that memory has, switches, trees, sizes and room of any size.
 //! Most are near the limits at which a call is refused.
 
 use super::call::Call;
@@ -81,11 +81,13 @@ fn tree(random: &mut Random) -> u16 {
     }
 }
 
-/// A parent or a walk, most often into a slice about as long as the walk.
+/// A parent, zones or a walk, most often into a slice about as long as the walk.
 pub fn query(random: &mut Random, session: &Session, switches: u16) -> Call {
     let (switch, tree) = (switch(random, switches), tree(random));
-    if random.chance(30) {
-        return Call::Parent { switch, tree };
+    match random.below(10) {
+        0..=2 => return Call::Parent { switch, tree },
+        3..=5 => return zones(random, switches),
+        _ => {}
     }
     let walk = || session.walk(switch, tree).map_or(3, |walk| walk.len());
     let room = match random.below(8) {
@@ -97,6 +99,52 @@ pub fn query(random: &mut Random, session: &Session, switches: u16) -> Call {
         _ => any_room(random),
     };
     Call::Walk { switch, tree, room }
+}
+
+/// Zones of a network of so many switches, most often of good sizes into a slice about as long as they are many.
+fn zones(random: &mut Random, switches: u16) -> Call {
+    let n = usize::from(switches);
+    let room = match random.below(8) {
+        0 => n.saturating_sub(1),
+        1 => random.below(n.max(1)),
+        2..=4 => n,
+        5 | 6 => n + random.within(1, 40),
+        _ => any_room(random),
+    };
+    let mut sizes = if n < 3 { any_sizes(random) } else { good_sizes(random, n) };
+    let (one, other) = (random.below(3), random.below(3));
+    match random.below(12) {
+        0 => sizes[one] = 0,
+        1 => (sizes[one], sizes[other]) = (0, sizes[other].wrapping_add(sizes[one])),
+        2 => sizes[one] = sizes[one].wrapping_add(*random.pick(&[1, 65535])),
+        3 | 4 => sizes = wrapping_sizes(random, switches),
+        5 => sizes = any_sizes(random),
+        _ => {}
+    }
+    Call::Zones { sizes, room }
+}
+
+/// Sizes of 1 or more that add up to N, of 3 or more: any, or two of them as small as can be.
+fn good_sizes(random: &mut Random, n: usize) -> [u16; 3] {
+    let one = if random.chance(30) { 1 } else { random.within(1, n - 2) };
+    let other = if random.chance(30) { 1 } else { random.within(1, n - 1 - one) };
+    let mut sizes = [one, other, n - one - other].map(|size| size as u16);
+    random.shuffle(&mut sizes);
+    sizes
+}
+
+/// Sizes of which most often none is 0, with a sum that is N once 65,536 is taken from it, once or twice.
+fn wrapping_sizes(random: &mut Random, n: u16) -> [u16; 3] {
+    let one = if random.chance(50) { 65535 } else { random.number() as u16 };
+    let other = if random.chance(50) { 1 } else { random.number() as u16 };
+    let mut sizes = [one, other, n.wrapping_sub(one).wrapping_sub(other)];
+    random.shuffle(&mut sizes);
+    sizes
+}
+
+fn any_sizes(random: &mut Random) -> [u16; 3] {
+    let below = *random.pick(&[3, 20, 1024, 65536]);
+    std::array::from_fn(|_| random.below(below) as u16)
 }
 
 fn any_room(random: &mut Random) -> usize {
@@ -111,8 +159,10 @@ fn any_room(random: &mut Random) -> usize {
 pub fn wild_query(random: &mut Random, memory: &archive::Session) -> Call {
     let switches = if random.chance(50) { memory.n } else { memory.n.min(30) };
     let (switch, tree) = (switch(random, switches), tree(random));
-    if random.chance(40) {
-        return Call::Parent { switch, tree };
+    match random.below(10) {
+        0..=2 => return Call::Parent { switch, tree },
+        3..=5 => return zones(random, memory.n),
+        _ => {}
     }
     let room = match random.below(4) {
         0 => memory.n.into(),

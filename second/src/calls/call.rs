@@ -26,9 +26,14 @@ pub enum Call {
         tree: u16,
         room: usize,
     },
+    Zones {
+        sizes: [u16; 3],
+        room: usize,
+    },
 }
 
-/// The values that a call gives (of a walk the count, then the switches), or its refusal.
+/// The values that a call gives (of a walk the count, then the switches; of zones those of all switches), or its
+/// refusal.
 pub type Values = Result<Vec<u16>, Refusal>;
 
 /// What a call answers.
@@ -76,7 +81,7 @@ impl Call {
     /// How many numbers it lends for writing.
     pub fn room(&self) -> usize {
         match self {
-            Call::Walk { room, .. } => *room,
+            Call::Walk { room, .. } | Call::Zones { room, .. } => *room,
             _ => 0,
         }
     }
@@ -104,6 +109,7 @@ impl Call {
                 let walk = session.walk_within(*switch, *tree, *room);
                 walk.map(|walk| [&[walk.len() as u16], &walk[..]].concat())
             }
+            Call::Zones { sizes, room } => session.zones_within(*sizes, *room),
         };
         Answer { accepted, values }
     }
@@ -127,6 +133,7 @@ impl Call {
             Call::Close => parts.close(),
             Call::Parent { switch, tree } => parts.parent(*switch, *tree, value),
             Call::Walk { switch, tree, .. } => parts.walk(*switch, *tree, out, value),
+            Call::Zones { sizes, .. } => parts.zones(*sizes, out),
         }
     }
 }
@@ -152,6 +159,7 @@ impl Display for Call {
             Call::Close => write!(out, "close"),
             Call::Parent { switch, tree } => write!(out, "parent {switch} {tree}"),
             Call::Walk { switch, tree, room } => write!(out, "walk {switch} {tree} into {room}"),
+            Call::Zones { sizes, room } => write!(out, "zones{} into {room}", Numbers(sizes)),
         }
     }
 }

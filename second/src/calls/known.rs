@@ -11,7 +11,8 @@ use crate::tables::Tables;
 /// The name of a field that the call left wrong, if any.
 pub fn wrong_field(call: &Call, memory: &archive::Session, second: &Session) -> Option<&'static str> {
     match (call, second) {
-        (Call::Parent { .. } | Call::Walk { .. }, _) | (Call::Ears(_), Session::Empty | Session::Closed(_)) => None,
+        (Call::Parent { .. } | Call::Walk { .. } | Call::Zones { .. }, _) => None,
+        (Call::Ears(_), Session::Empty | Session::Closed(_)) => None,
         (_, Session::Empty) => (*memory != archive::Session::EMPTY).then_some("all of an empty session"),
         (Call::Load(_, numbers), Session::Open(judge)) => wrong_loaded(memory, numbers).or(wrong_open(memory, judge)),
         (_, Session::Open(judge)) => wrong_open(memory, judge),
@@ -31,11 +32,8 @@ fn wrong_loaded(memory: &archive::Session, numbers: &[u16]) -> Option<&'static s
 
 fn wrong_open(memory: &archive::Session, judge: &Judge) -> Option<&'static str> {
     let network = &judge.network;
-    let mut births = [0; MAX_SWITCHES];
-    for (at, ear) in judge.long_ears.iter().enumerate() {
-        let new = if at == 0 { &ear[..] } else { &ear[1..ear.len() - 1] };
-        new.iter().for_each(|&switch| births[switch as usize] = at as u16 + 1);
-    }
+    let mut births = judge.births();
+    births.resize(MAX_SWITCHES, 0);
     let mut used = [0; MAX_LINKS];
     (0..network.links).for_each(|link| used[link] = judge.is_used(link).into());
     let born = births.iter().filter(|&&birth| birth != 0).count();
@@ -50,7 +48,7 @@ fn wrong_open(memory: &archive::Session, judge: &Judge) -> Option<&'static str> 
         ("born", memory.born, born as u16),
     ];
     let number = numbers.iter().find(|(_, one, other)| one != other).map(|(name, ..)| *name);
-    number.or((memory.births != births).then_some("births")).or((memory.used != used).then_some("used"))
+    number.or((memory.births[..] != births).then_some("births")).or((memory.used != used).then_some("used"))
 }
 
 /// Closing leaves all but the stage and tree 3 as they were, so that only these and what was not seen before are held.
@@ -58,7 +56,7 @@ fn wrong_closed(memory: &archive::Session, tables: &Tables) -> Option<&'static s
     if memory.stage != CLOSED {
         return Some("stage");
     }
-    if memory.order[..tables.switches] != tables.order.to_list() {
+    if memory.order[..tables.switches] != tables.order {
         return Some("order");
     }
     let rows = [("tree1", &memory.tree1, 1), ("tree2", &memory.tree2, 2), ("tree3", &memory.tree3, 3)];

@@ -15,6 +15,7 @@ pub fn wrong_lengths(random: &mut Random, call: &Call) -> Lengths {
         Call::Ear(_) | Call::Ears(_) => &[0, 1, 2, 3, 4, 6],
         Call::Close => &[0, 1, 5, 6],
         Call::Parent { .. } | Call::Walk { .. } => &[3, 4, 5],
+        Call::Zones { .. } => &[1, 2],
     };
     let mut lengths = RIGHT;
     let count = *random.pick(&[1, 1, 1, 2, lent.len()]);

@@ -1,10 +1,12 @@
 //! What a call may answer and leave on an open or closed session that no calls made: what its memory alone decides.
 //! Numbers past the end of an array read as 0, a table has at most the array's links, and a walk at most N switches.
+//! Zones are 1 to 3 there too, and 3 for a switch that stands nowhere in the order.
 //! A list of ears answers and leaves what its ears do, offered one by one to another session of the same memory.
 
 use super::call::{Answer, Call, Values};
 use crate::archive::{Session, CLOSED, OPEN};
 use crate::session::ears_of;
+use crate::zones::are_sizes;
 use crate::{refuse, Refusal};
 
 /// Whether the call may be answered so.
@@ -18,9 +20,12 @@ pub fn may_answer(call: &Call, session: &Session, answer: &Answer) -> bool {
         Call::Ears(list) => return *answer == one_by_one(&mut session.clone(), list),
         Call::Close if is_open => close(session),
         Call::Ear(_) | Call::Close => refuse(22, 0),
-        Call::Parent { .. } | Call::Walk { .. } if is_open => refuse(21, 0),
+        Call::Parent { .. } | Call::Walk { .. } | Call::Zones { .. } if is_open => refuse(21, 0),
         Call::Parent { switch, tree } => row(session, *switch, *tree).map(|row| vec![entry(row, *switch)]),
         Call::Walk { switch, tree, room } => walk(session, *switch, *tree, *room),
+        Call::Zones { sizes, .. } if !are_sizes(*sizes, session.n.into()) => refuse(24, 0),
+        Call::Zones { room, .. } if *room < session.n.into() => refuse(18, 0),
+        Call::Zones { .. } => return answer.values.as_ref().is_ok_and(|zones| may_be_zones(session, zones)),
     };
     *answer == Answer { accepted: 0, values: settled }
 }
@@ -100,6 +105,17 @@ fn walk(session: &Session, switch: u16, tree: u16, room: usize) -> Values {
     Ok(values)
 }
 
+fn may_be_zones(session: &Session, zones: &[u16]) -> bool {
+    let mut in_order = vec![false; zones.len()];
+    for &switch in &session.order {
+        if let Some(mark) = in_order.get_mut(switch as usize) {
+            *mark = true;
+        }
+    }
+    let may_be = |(zone, in_order): (&u16, bool)| (if in_order { 1..=3 } else { 3..=3 }).contains(zone);
+    zones.len() == session.n.into() && zones.iter().zip(in_order).all(may_be)
+}
+
 /// Whether a granted call left what it does not set, and set the stage; of a list, whether all is as its ears leave it.
 pub fn leaves(call: &Call, before: &Session, after: &Session) -> bool {
     let same_network = network(before) == network(after);
@@ -114,7 +130,7 @@ pub fn leaves(call: &Call, before: &Session, after: &Session) -> bool {
             *after == offered
         }
         Call::Close => same_network && after.stage == CLOSED && tables(before) == tables(after),
-        Call::Parent { .. } | Call::Walk { .. } => before == after,
+        Call::Parent { .. } | Call::Walk { .. } | Call::Zones { .. } => before == after,
     }
 }
 

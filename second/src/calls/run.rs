@@ -11,14 +11,15 @@ use super::side::Fault;
 use super::trial::{Done, Finding, Step, Trial};
 use crate::compare::refusals_told;
 use crate::random::Random;
-use crate::seen::{CrossedEars, EmptyEars, Seen};
+use crate::seen::{CrossedEars, EmptyEars, Seen, Zones};
 use crate::session::ears_of;
 use crate::Plant;
 
 /// A walk on memory that no calls made may go on for 65,535 switches, and it calls itself for each.
 const STACK: usize = 64 << 20;
 
-/// With so many calls or more, every refusal has to be seen, every answer to an empty ear, and both crossed ears.
+/// With so many calls or more, every refusal has to be seen, every answer to an empty ear and to zones, and both
+/// crossed ears.
 const ENOUGH: usize = 100_000;
 
 /// What was seen.
@@ -32,6 +33,7 @@ pub struct Counts {
     pub refusals: BTreeMap<u16, BTreeMap<u16, usize>>,
     pub empty_ears: EmptyEars,
     pub crossed_ears: CrossedEars,
+    pub zones: Zones,
     /// Lists that were refused at an ear behind accepted ones, and lists with an empty ear accepted.
     pub stopped: usize,
     pub lists_with_empty: usize,
@@ -41,6 +43,7 @@ pub struct Counts {
     pub unknown_granted: BTreeMap<&'static str, usize>,
     pub unknown_refusals: BTreeMap<u16, BTreeMap<u16, usize>>,
     pub unknown_empty_ears: EmptyEars,
+    pub unknown_zones: Zones,
     /// Calls with arrays of other lengths than the struct's.
     pub wrong_lengths: usize,
 }
@@ -187,13 +190,14 @@ fn name(call: &Call) -> &'static str {
         Call::Close => "close",
         Call::Parent { .. } => "parent",
         Call::Walk { .. } => "walk",
+        Call::Zones { .. } => "zones",
     }
 }
 
 impl Counts {
     fn add(&mut self, step: &Step, done: &Done) {
         match (step, done) {
-            (Step::Call(call), Done::Answered { answer, known, leftover, crossed }) => {
+            (Step::Call(call), Done::Answered { answer, known, n, leftover, crossed }) => {
                 self.calls += 1;
                 self.add_answer(call, answer, *known);
                 if let Some(crossed) = crossed {
@@ -202,6 +206,11 @@ impl Counts {
                 if call.is_empty_ear() {
                     let ears = if *known { &mut self.empty_ears } else { &mut self.unknown_empty_ears };
                     ears.add(answer.values.as_ref().map(|_| *leftover).map_err(|refusal| refusal.number.into()));
+                }
+                if let Call::Zones { sizes, room } = call {
+                    let zones = if *known { &mut self.zones } else { &mut self.unknown_zones };
+                    let refused = answer.values.as_ref().err().map(|refusal| refusal.number.into());
+                    zones.add(refused, *sizes, *n, *room);
                 }
             }
             (_, Done::Lengths) => {
@@ -232,15 +241,15 @@ impl Counts {
         }
     }
 
-    /// The refusals, and the ears, that were never seen although there were calls enough.
+    /// The refusals, ears and zones that were never seen although there were calls enough.
     pub fn missing(&self) -> Vec<String> {
         if self.calls < ENOUGH {
             return Vec::new();
         }
-        let refusals = (1..=23).filter(|number| !self.refusals.contains_key(number)).map(|number| number.to_string());
-        let ears = [self.empty_ears.missing(), self.crossed_ears.missing()].concat();
+        let refusals = (1..=24).filter(|number| !self.refusals.contains_key(number)).map(|number| number.to_string());
+        let kinds = [self.empty_ears.missing(), self.crossed_ears.missing(), self.zones.missing()].concat();
         let listed = (self.lists_with_empty == 0).then(|| "an empty ear in a list".to_string());
-        refusals.chain(ears).chain(listed).collect()
+        refusals.chain(kinds).chain(listed).collect()
     }
 }
 
@@ -252,8 +261,8 @@ pub fn summary(counts: &Counts) -> String {
     };
     format!(
         "equal: {} calls, {} sessions; {} compared with the second program, granted {}, \
-         refusals (number:times/places) {}, empty ears: {}, crossed ears: {}; \
-         {} overwritten, {} calls on them, granted {}, refusals {}, empty ears: {}; \
+         refusals (number:times/places) {}, empty ears: {}, crossed ears: {}, zones: {}; \
+         {} overwritten, {} calls on them, granted {}, refusals {}, empty ears: {}, zones: {}; \
          {} lists stopped behind accepted ears, {} with an empty ear accepted; {} calls with arrays of wrong lengths",
         counts.calls,
         counts.sessions,
@@ -262,11 +271,13 @@ pub fn summary(counts: &Counts) -> String {
         refusals_told(&counts.refusals),
         counts.empty_ears.told(),
         counts.crossed_ears.told(),
+        counts.zones.told(),
         counts.overwritten,
         counts.unknown,
         told(&counts.unknown_granted),
         refusals_told(&counts.unknown_refusals),
         counts.unknown_empty_ears.told(),
+        counts.unknown_zones.told(),
         counts.stopped,
         counts.lists_with_empty,
         counts.wrong_lengths,

@@ -19,6 +19,8 @@ pub enum Fault {
     Lent,
     /// The number behind a walk changes.
     Rest,
+    /// The number behind the zones changes.
+    RestOfZones,
     /// One of two equal copies gets another entry.
     Copy,
     /// Arrays of wrong lengths are lent with the right ones.
@@ -27,6 +29,10 @@ pub enum Fault {
     Accepted,
     /// A list leaves another order than its ears.
     Order,
+    /// Zones 1 and 2 are exchanged.
+    Zones,
+    /// The zone of switch 0 is left as the slice held it.
+    Unwritten,
 }
 
 /// What stands where the ears accepted are written, before the call: no half of it is 0.
@@ -48,7 +54,7 @@ impl<M: Memory> Side<M> {
         Side { memory, lent: lent(), out: lent(), value: lent(), accepted }
     }
 
-    /// Makes a call; the slice lent to a walk, and the number that a call may write, hold the start of `filler`.
+    /// Makes a call; the slice lent for writing, and the number that a call may write, hold the start of `filler`.
     pub fn make(&mut self, call: &Call, filler: &[u16]) -> Refusal {
         self.lent.fill(call.lent().iter().copied());
         self.out.fill(filler[..call.room()].iter().copied());
@@ -92,12 +98,28 @@ impl<M: Memory> Side<M> {
                 let count = self.out.get().len().min(value.into());
                 [&[value], &self.out.get()[..count]].concat()
             }
+            Call::Zones { room, .. } => {
+                let count = self.written(call, refusal).min(*room);
+                self.out.get()[..count].to_vec()
+            }
         })
     }
 
+    /// How many numbers a call that gives this writes at the start of the slice.
+    fn written(&mut self, call: &Call, refusal: Refusal) -> usize {
+        match call {
+            Call::Walk { .. } if refusal.number == 0 => self.value.get()[0].into(),
+            Call::Zones { .. } if refusal.number == 0 => {
+                let [_, n, ..] = self.memory.parts().numbers;
+                (*n).into()
+            }
+            _ => 0,
+        }
+    }
+
     /// Nothing changed outside what is lent, nothing that is lent for reading, and by a refusal nothing at all, but the
-    /// count of a list and by the ears accepted; a walk leaves the rest of its slice. `before` is the session as it was.
-    pub fn check(&self, call: &Call, filler: &[u16], before: &Session, refusal: Refusal) -> Result<(), Finding> {
+    /// count of a list and by the ears accepted; the rest of a slice is left. `before` is the session as it was.
+    pub fn check(&mut self, call: &Call, filler: &[u16], before: &Session, refusal: Refusal) -> Result<(), Finding> {
         let lent = [&self.lent, &self.out, &self.value];
         if !self.memory.is_guarded() || !lent.iter().all(|lent| lent.is_guarded()) || !self.accepted.is_guarded() {
             return Finding::of(Kind::Outside, "memory that was not lent has changed");
@@ -105,20 +127,16 @@ impl<M: Memory> Side<M> {
         if self.lent.get() != call.lent() {
             return Finding::of(Kind::Changed, "the numbers lent for reading have changed");
         }
-        let value = self.value.get()[0];
-        let written = match call {
-            Call::Walk { .. } if refusal.number == 0 => usize::from(value),
-            _ => 0,
-        };
+        let written = self.written(call, refusal);
         if self.out.get().get(written..) != filler[..call.room()].get(written..) {
-            return Finding::of(Kind::Changed, "the rest of the slice of a walk has changed");
+            return Finding::of(Kind::Changed, "the rest of the slice lent for writing has changed");
         }
         let accepted = self.accepted(call, refusal);
         if accepted.is_none() && self.accepted.get()[0] != UNWRITTEN {
             return Finding::of(Kind::Changed, "a count of ears accepted was written by a call that has none");
         }
         let nothing = refusal.number != 0 && accepted.unwrap_or(0) == 0;
-        if nothing && (!self.memory.holds(before) || value != filler[0]) {
+        if nothing && (!self.memory.holds(before) || self.value.get()[0] != filler[0]) {
             return Finding::of(Kind::Changed, "a refusal has changed the session or an output");
         }
         Ok(())
@@ -127,14 +145,21 @@ impl<M: Memory> Side<M> {
     /// Does what the fault says; `copy` is true of one side.
     pub fn spoil(&mut self, fault: Fault, copy: bool, call: &Call, refusal: Refusal) {
         let granted = refusal.number == 0;
+        let written = self.written(call, refusal);
         match (fault, call) {
             (Fault::Session, _) if !granted => self.memory.parts().tree3[1023] ^= 1,
             (Fault::Behind, _) => *self.memory.behind() ^= 1,
             (Fault::Lent, Call::Ear(ear)) if !ear.is_empty() => self.lent.lend()[0] ^= 1,
-            (Fault::Rest, Call::Walk { room, .. }) if granted && *room > self.value.get()[0].into() => {
-                let count = usize::from(self.value.get()[0]);
-                self.out.lend()[count] ^= 1;
+            (Fault::Rest, Call::Walk { room, .. }) | (Fault::RestOfZones, Call::Zones { room, .. })
+                if granted && *room > written =>
+            {
+                self.out.lend()[written] ^= 1;
             }
+            (Fault::Zones, Call::Zones { .. }) if granted => {
+                let exchanged = |zone: &mut u16| *zone = [0, 2, 1, 3][*zone as usize];
+                self.out.lend()[..written].iter_mut().for_each(exchanged);
+            }
+            (Fault::Unwritten, Call::Zones { .. }) if granted => self.out.lend()[0] = self.value.get()[0],
             (Fault::Accepted, Call::Ears(_)) if !granted => self.accepted.lend()[0] += 1,
             (Fault::Order, Call::Ears(_)) if self.accepted.get()[0] > 0 => self.memory.parts().order[1023] ^= 1,
             (Fault::Copy, Call::Ear(_)) if granted && copy => self.memory.parts().tree1[1023] ^= 1,

@@ -11,11 +11,12 @@ use super::memory::{leaves, may_answer, with_leftover_taken};
 use super::overwrite::overwrite;
 use super::side::{Fault, Side};
 use crate::archive::{self, CLOSED, OPEN};
+use crate::brute;
 use crate::seen::Crossed;
 use crate::session::Session;
 use crate::Plant;
 
-/// The most numbers that are lent to a walk.
+/// The most numbers that are lent for writing.
 pub const MOST_ROOM: usize = 70_000;
 
 /// A step of a session, which can be made again.
@@ -59,11 +60,12 @@ impl Finding {
 
 /// What a step did, for the counts.
 pub enum Done {
-    /// `leftover` is the count of links that an empty ear takes where it is granted; `crossed` is for a refused ear
-    /// where the second program knows the session.
+    /// `n` is what memory has; `leftover` is the count of links that an empty ear takes where it is granted; `crossed`
+    /// is for a refused ear where the second program knows the session.
     Answered {
         answer: Answer,
         known: bool,
+        n: u16,
         leftover: usize,
         crossed: Option<Crossed>,
     },
@@ -80,6 +82,8 @@ pub struct Trial {
     second: Option<Session>,
     plant: Plant,
     fault: Fault,
+    /// What outputs hold before a call: from the first number on beside the one copy, from the second on beside the
+    /// other.
     filler: Vec<u16>,
 }
 
@@ -93,7 +97,7 @@ impl Trial {
             second: Some(Session::Empty),
             plant,
             fault,
-            filler: (0..MOST_ROOM).map(|at| (at as u16).wrapping_mul(40503) ^ 0x5AA5).collect(),
+            filler: (0..=MOST_ROOM).map(|at| (at as u16).wrapping_mul(40503) ^ 0x5AA5).collect(),
         }
     }
 
@@ -110,9 +114,10 @@ impl Trial {
             Step::Call(call) => {
                 let known = self.second.is_some();
                 let leftover = if call.is_empty_ear() { with_leftover_taken(&self.before).0 } else { 0 };
+                let n = self.before.n;
                 let answer = self.call(call)?;
                 let crossed = self.crossed(call, &answer);
-                Ok(Done::Answered { answer, known, leftover, crossed })
+                Ok(Done::Answered { answer, known, n, leftover, crossed })
             }
             Step::Overwrite(seed) => {
                 self.overwrite(*seed);
@@ -146,9 +151,9 @@ impl Trial {
         let made = whole.make(call, filler);
         whole.spoil(*fault, false, call, made);
         whole.check(call, filler, before, made)?;
-        let copied = apart.make(call, filler);
+        let copied = apart.make(call, &filler[1..]);
         apart.spoil(*fault, true, call, copied);
-        apart.check(call, filler, before, copied)?;
+        apart.check(call, &filler[1..], before, copied)?;
         let answer = whole.answer(call, made);
         let same = made == copied && answer == apart.answer(call, copied);
         if !same || !apart.memory.holds(whole.memory.session()) {
@@ -177,8 +182,7 @@ impl Trial {
             return Ok(());
         };
         let expected = call.second(second, self.plant);
-        if *answer != expected {
-            let what = format!("the archive answers {}, the second program {}", Told(answer), Told(&expected));
+        if let Some(what) = difference(call, &self.before, answer, &expected) {
             return Finding::of(Kind::Answer, &what);
         }
         match answer.may_change().then(|| wrong_field(call, after, second)).flatten() {
@@ -186,6 +190,19 @@ impl Trial {
             None => Ok(()),
         }
     }
+}
+
+/// How the archive's answer differs from the second program's. Zones need not be the same: both are searched for a
+/// fault, along the links of the session.
+fn difference(call: &Call, session: &archive::Session, answer: &Answer, expected: &Answer) -> Option<String> {
+    if let (Call::Zones { sizes, .. }, Ok(zones), Ok(others)) = (call, &answer.values, &expected.values) {
+        let site = session.site();
+        let fault = |zones| brute::are_zones(&site, *sizes, zones).err();
+        let of_archive = fault(zones).map(|fault| format!("the zones of the archive: {fault}"));
+        return of_archive.or(fault(others).map(|fault| format!("the zones of the second program: {fault}")));
+    }
+    let told = || format!("the archive answers {}, the second program {}", Told(answer), Told(expected));
+    (answer != expected).then(told)
 }
 
 /// An answer as it is told.
