@@ -1,17 +1,19 @@
-/* A switch that judges an ear list and sets its three forwarding tables: document 01's worked network, as in examples/worked.plan.
- * The session is static and nothing is allocated. Exit status: 0, or 1 after a refusal that was not expected. */
+/* A switch that judges an ear list, sets its three forwarding tables and parts its network into three maintenance zones: document 01's
+ * worked network, as in examples/worked.plan. The session is static and nothing is allocated. Exit status: 0, or 1 after a refusal that
+ * was not expected. */
 #include <stdio.h>
 #include <stdlib.h>
 
 #include "threeways.h"
 
-enum { TREES = 3 };
+enum { TREES = 3, ZONES = 3 };
 
 /* The plan: 4 switches with root 0, first 1 and last 3; an ear that a planner got wrong; and the list, each ear preceded by its count of
  * switches: two long ears, and an empty one, which takes the links that they leave. */
 static const uint16_t links[] = { 0, 1, 0, 2, 0, 3, 1, 2, 1, 3, 2, 3 };
 static const uint16_t wrong_ear[] = { 0, 2, 3, 1 };
 static const uint16_t list[] = { 3, 0, 2, 1, 3, 2, 3, 1, 0 };
+static const uint16_t sizes[ZONES] = { 1, 2, 1 };       /* of the zones: they add up to 4 */
 
 #define COUNT(array) (sizeof(array) / sizeof((array)[0]))
 
@@ -87,11 +89,26 @@ static void print_routes(uint16_t s)
     }
 }
 
+/* Asks for zones of the sizes wanted, and prints the switches of each: zone 1 has root, zone 2 first, and zone 3 last. */
+static void print_zones(void)
+{
+    static uint16_t zones[THREEWAYS_MAX_SWITCHES];
+    require("zones", threeways_zones(&session, sizes[0], sizes[1], sizes[2], zones, THREEWAYS_MAX_SWITCHES));
+    for (uint16_t zone = 1; zone <= ZONES; zone++) {
+        printf("zone %u:", (unsigned)zone);
+        for (uint16_t s = 0; s < session.n; s++)
+            if (zones[s] == zone)
+                print_switches(&s, 1);
+        putchar('\n');
+    }
+}
+
 int main(void)
 {
     judge();
     set_forwarding();
     for (uint16_t s = 0; s < session.n; s++)
         print_routes(s);
+    print_zones();
     return EXIT_SUCCESS;
 }

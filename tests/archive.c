@@ -184,6 +184,76 @@ static void closed_session(void)
     hold(is(threeways_clear(&other), 0, 0) && same(&other, &zeros), "clear leaves zeros of a closed session");
 }
 
+enum { ROOM = 8 };
+
+static uint16_t zones[ROOM];
+
+/* Asks for zones in a slice where 9 stands before. */
+static struct threeways_refusal zone(const struct threeways_session *s, unsigned size1, unsigned size2, unsigned size3, size_t room)
+{
+    for (size_t i = 0; i < ROOM; i++)
+        zones[i] = 9;
+    return threeways_zones(s, (uint16_t)size1, (uint16_t)size2, (uint16_t)size3, room == 0 ? NULL : zones, room);
+}
+
+/* Whether the slice has these digits, one for each number. */
+static int are(const char *digits)
+{
+    for (size_t i = 0; i < ROOM; i++)
+        if (zones[i] != digits[i] - '0')
+            return 0;
+    return 1;
+}
+
+/* A refusal by this number that leaves the slice. */
+static int refused(struct threeways_refusal r, unsigned number) { return is(r, number, 0) && are("99999999"); }
+
+/* The worked network: of its four switches three are named, so that the sizes decide the zone of the fourth. */
+static void zones_refused(void)
+{
+    struct threeways_session *s = &session;
+    hold(refused(zone(&zeros, 0, 1, 3, 0), 19), "zones of an empty session are 19, before wrong sizes and no room");
+    hold(refused(zone(&loaded, 0, 1, 3, 0), 21), "zones of an open session are 21, before wrong sizes and no room");
+    *s = done;
+    hold(refused(zone(s, 0, 1, 3, ROOM), 24), "a first size of 0 is 24");
+    hold(refused(zone(s, 1, 0, 3, ROOM), 24) && refused(zone(s, 1, 3, 0, ROOM), 24), "another size of 0 is 24");
+    hold(refused(zone(s, 1, 1, 1, ROOM), 24) && refused(zone(s, 2, 2, 1, ROOM), 24), "a sum other than n is 24");
+    hold(refused(zone(s, 65535, 1, 4, ROOM), 24), "a sum that is n in 16 bits alone is 24");
+    hold(refused(zone(s, 1, 1, 1, 3), 24) && refused(zone(s, 0, 1, 3, 0), 24), "wrong sizes are told before little room");
+    hold(refused(zone(s, 1, 2, 1, 3), 18), "room for three numbers is 18");
+    hold(refused(zone(s, 1, 2, 1, 0), 18), "no room at NULL is 18");
+    s->stage = THREEWAYS_EMPTY;
+    hold(refused(threeways_zones_in(s->stage, s->n, s->m, s->root, s->first, s->last, s->longs, s->born, s->births, 1023,
+        THREEWAYS_ARRAY(s->order), 1, 2, 1, zones, ROOM), THREEWAYS_LENGTHS), "births of another length are 255, at any stage");
+    hold(refused(threeways_zones_in(s->stage, s->n, s->m, s->root, s->first, s->last, s->longs, s->born, THREEWAYS_ARRAY(s->births),
+        s->order, 1023, 1, 2, 1, zones, ROOM), THREEWAYS_LENGTHS), "an order of another length is 255, at any stage");
+}
+
+static void zones_given(void)
+{
+    static const uint16_t card_k[] = { 0, 1, 0, 2, 1, 2, 1, 3, 2, 3, 3, 4, 3, 5, 4, 5, 0, 4, 0, 5 };
+    static const uint16_t card_k_list[] = { 3, 0, 2, 1, 3, 2, 3, 1, 3, 3, 4, 0, 3, 3, 5, 4, 0 };
+    struct threeways_session *s = &session;
+    *s = done;
+    hold(is(zone(s, 2, 1, 1, ROOM), 0, 0) && are("12139999"), "sizes 2 1 1 put switch 2 into zone 1, and the rest of the slice is left");
+    hold(is(zone(s, 1, 2, 1, 5), 0, 0) && are("12239999"), "sizes 1 2 1 put it into zone 2");
+    hold(is(zone(s, 1, 1, 2, 4), 0, 0) && are("12339999"), "sizes 1 1 2 put it into zone 3, and n places are room enough");
+    hold(same(s, &done), "zones leave the session");
+    *s = zeros;
+    hold(is(threeways_load(s, 6, card_k, 20, 0, 1, 5), 0, 0) && is(offer(s, card_k_list, 17), 0, 0) && is(threeways_close(s), 0, 0),
+        "the list of card k closes");
+    hold(is(zone(s, 4, 1, 1, ROOM), 0, 0) && are("12111399"), "sizes 4 1 1 leave zones 2 and 3 first and last alone");
+    hold(is(zone(s, 1, 4, 1, ROOM), 0, 0) && are("12222399"), "sizes 1 4 1 leave zones 1 and 3 root and last alone");
+    hold(is(zone(s, 1, 1, 4, ROOM), 0, 0) && are("12333399"), "sizes 1 1 4 leave zones 1 and 2 root and first alone, and cut the first ear");
+    hold(is(zone(s, 2, 2, 2, ROOM), 0, 0) && (are("12123399") || are("12231399")), "sizes 2 2 2 give one of the two right answers");
+    *s = zeros;
+    s->stage = THREEWAYS_CLOSED;
+    s->n = 5;
+    hold(is(zone(s, 1, 1, 3, ROOM), 0, 0) && zones[0] >= 1 && zones[0] <= 3, "of memory that no calls made zones are given, 1 to 3");
+    zones[0] = 9;
+    hold(are("93333999"), "they are 3 for switches that are not in its order, and the rest of the slice is left");
+}
+
 int main(void)
 {
     empty_session();
@@ -192,5 +262,7 @@ int main(void)
     leftover_links();
     crossed_switch();
     closed_session();
+    zones_refused();
+    zones_given();
     return failed;
 }
