@@ -1,5 +1,6 @@
-/* Makes the calls of a plan through include/threeways.h: load, its list and its ears, close, parent and walk of every switch, clear.
- * Call: archive calls PLAN or archive stack PLAN. A line for each call: name, refusal (0: none), length, bytes of stack (calls: 0). */
+/* Makes the calls of a plan through include/threeways.h: load, its list and its ears, close, parent and walk of every switch, zones, clear.
+ * Call: archive calls PLAN or archive stack PLAN. A line for each call: name, refusal (0: none), length, bytes of stack (calls: 0); the name
+ * of zones that are given has their sizes. */
 #include <stdio.h>
 #include <stdlib.h>
 #include <string.h>
@@ -20,7 +21,7 @@ static size_t links_count, ears, start[MAX_EARS + 1];
 static struct threeways_session session;
 static const uint16_t *ear;
 static size_t ear_count, accepted, room = THREEWAYS_MAX_SWITCHES;
-static uint16_t switch_number, tree, result, out[ANY];
+static uint16_t switch_number, tree, sizes[3], result, out[ANY];
 static struct threeways_refusal refusal;
 
 /* The painted stack, the way to it and back, and what is run on it. */
@@ -44,6 +45,7 @@ CALL(ears, threeways_ears(&session, list, start[ears], &accepted))
 CALL(close, threeways_close(&session))
 CALL(parent, threeways_parent(&session, switch_number, tree, &result))
 CALL(walk, threeways_walk(&session, switch_number, tree, out, room, &result))
+CALL(zones, threeways_zones(&session, sizes[0], sizes[1], sizes[2], out, room))
 
 /* Writes the numbers of a line, and gives their count. */
 static size_t read_numbers(const char *line, uint16_t *to, size_t most)
@@ -179,8 +181,32 @@ static void ask(uint16_t s, uint16_t t)
     report("walk", refusal.number == 0 ? result : 0, bytes);
 }
 
-/* A walk that never meets the root, as far as 16 bits count, with room for a network's walks and with room for all of it: the same on every
- * network, so it is asked on the smallest alone. */
+static void ask_zones(unsigned size1, unsigned size2, unsigned size3)
+{
+    char name[64];
+    sizes[0] = (uint16_t)size1;
+    sizes[1] = (uint16_t)size2;
+    sizes[2] = (uint16_t)size3;
+    size_t bytes = make(measured_zones);
+    snprintf(name, sizeof name, refusal.number == 0 ? "zones:%u:%u:%u" : "zones", size1, size2, size3);
+    report(name, refusal.number == 0 ? session.n : 0, bytes);
+}
+
+/* Zones of the sizes that second-list asks for too, then of wrong sizes and with little room. */
+static void ask_all_zones(unsigned n)
+{
+    ask_zones(1, 1, n - 2);
+    ask_zones(n / 3, n / 3, n - 2 * (n / 3));
+    ask_zones(n - 2, 1, 1);
+    ask_zones(1, n - 2, 1);
+    ask_zones(n, 1, 1);
+    room = n - 1;
+    ask_zones(1, 1, n - 2);
+    room = THREEWAYS_MAX_SWITCHES;
+}
+
+/* A walk that never meets the root, as far as 16 bits count, with room for a network's walks and with room for all of it, and zones of as
+ * many switches: the same on every network, so it is asked on the smallest alone. */
 static void ask_overwritten(void)
 {
     session.n = session.root = ANY;
@@ -191,6 +217,10 @@ static void ask_overwritten(void)
     room = ANY;
     bytes = make(measured_walk);
     report("overwritten-walk", refusal.number == 0 ? result : 0, bytes);
+    sizes[0] = sizes[1] = 1;
+    sizes[2] = ANY - 2;
+    bytes = make(measured_zones);
+    report("overwritten-zones", refusal.number == 0 ? session.n : 0, bytes);
 }
 
 int main(int count, char **words)
@@ -209,6 +239,7 @@ int main(int count, char **words)
     for (uint16_t t = 1; t <= 3; t++)
         for (uint16_t s = 0; s < net[0]; s++)
             ask(s, t);
+    ask_all_zones(net[0]);
     if (session.stage == THREEWAYS_CLOSED && session.n == THREEWAYS_MIN_SWITCHES)
         ask_overwritten();
     report("clear", 0, make(measured_clear));
