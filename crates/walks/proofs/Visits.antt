@@ -1,13 +1,14 @@
--- A walk as the switches visited up to its last one, and these written into a slice: the first, then those visited from its entry.
+-- A walk as the switches visited up to its last one, and these written into a slice from the front.
 -- What stands behind them is left.
 use mathlib.Core.Path.{_≡_, refl, ap}
 use mathlib.Core.Bool.{Bool, true, false, cond}
-use mathlib.Core.List.{List, [], _∷_, _++_, append-nil}
-use Prim.Native.Nat.{ℕ, zero, suc, _-_, _<_}
+use mathlib.Core.List.{List, [], _∷_, _++_}
+use Prim.Native.Nat.{ℕ, zero, suc, _+_, _-_, _<_}
 use native.Mathlib.Omega.{arith}
+use native.Mathlib.Numerals.{add-one}
 use lib.Dec.{eqb}
 use lib.ListN.{length, set, take, drop}
-use lib.Seq.{set-split, take-length, drop-length}
+use lib.Seq.{set-split, take-suc-set, drop-set-lt, append-snoc}
 use Rattle.mondschein.specs.Order.{walkBy}
 use Rattle.walks.specs.Walks.{visited}
 use Rattle.mondschein.proofs.Routes.{walk-bound}
@@ -27,20 +28,20 @@ visited-walk root p (suc k) v left q = go (eqb v root) left q (visited-walk root
     go false zero q next = absurd (omega (arith, walk-bound root p k (p v)))
     go false (suc left) q next = ap (λ (l : List ℕ). v ∷ l) (next left (omega arith))
 
--- no link is left
-pub visited-last : (p : ℕ → ℕ) (v left : ℕ) (out : List ℕ) → left < length out → left ≡ 0 → set out 0 v ≡ visited p left v ++ drop (suc left) out
-unfolding visited
-visited-last p v left out h e = rw e (set-split out 0 v (omega arith))
+-- ---- a loop that writes them from the front: i of them stand in the slice, x is the next, and what stands behind the last is left
+module _ (p : ℕ → ℕ) (left : ℕ) (out : List ℕ) where
+  pub visited-begin : (v : ℕ) → take 0 out ++ (visited p (left - 0) v ++ drop (suc left) out) ≡ visited p left v ++ drop (suc left) out
+  visited-begin v = let e : left - 0 ≡ left = omega arith in rw e
 
--- `rest` takes the place of what stands behind the first number
-pub visited-next : (p : ℕ → ℕ) (v left : ℕ) (out rest : List ℕ) → left < length out → (left ≡ 0 → ⊥)
-    → rest ≡ visited p (left - 1) (p v) ++ drop (suc (left - 1)) (take (length (set out 0 v) - 1) (drop 1 (set out 0 v)))
-    → take 1 (set out 0 v) ++ (rest ++ drop (length (set out 0 v) - 1) (drop 1 (set out 0 v))) ≡ visited p left v ++ drop (suc left) out
-unfolding visited
-visited-next p v left [] rest h n e = absurd (omega arith)
-visited-next p v zero (x ∷ xs) rest h n e = absurd (n refl)
-visited-next p v (suc k) (x ∷ xs) rest h n e =
-    let a : suc (length xs) - 1 ≡ length xs = omega arith in
-    let b : suc k - 1 ≡ k = omega arith in
-    let e′ : rest ≡ visited p k (p v) ++ drop (suc k) xs = simp (a, b, take-length) at e in
-    rw (a, drop-length, append-nil, e′)
+  pub visited-next : (x i : ℕ) → i < left → left < length out
+      → take (i + 1) (set out i x) ++ (visited p (left - (i + 1)) (p x) ++ drop (suc left) (set out i x)) ≡ take i out ++ (visited p (left - i) x ++ drop (suc left) out)
+  unfolding visited
+  visited-next x i h g =
+      let e : left - i ≡ suc (left - (i + 1)) = omega arith in
+      let o : i < length out = omega arith in
+      let s : i < suc left = omega arith in
+      rw (e, drop-set-lt (suc left) out i x, add-one i, take-suc-set out i x, append-snoc)
+
+  pub visited-last : (x i : ℕ) → i ≡ left → left < length out → set out left x ≡ take i out ++ (visited p (left - i) x ++ drop (suc left) out)
+  unfolding visited
+  visited-last x i e h = let z : left - i ≡ 0 = omega arith in rw (z, e, set-split out left x h)
