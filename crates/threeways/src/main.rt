@@ -1,152 +1,14 @@
 // threeways: reads standard input in blocks, hands their bytes to the dialogue, and writes the replies before it reads on.
 // Memory is fixed: one block, one line, the numbers of an ear, the links collected, replies, and the session's arrays with their index.
+use blocks::End;
+use blocks::Ended;
 use collect::Reader;
 use in_place::Session;
-use in_place::State;
 ghost use mathlib.Core.Path.{_≡_};
-ghost use mathlib.Core.Bool.{true};
 ghost use Prim.Native.Nat.{_≤_};
 ghost use lib.ListN.{length};
-ghost use Rattle.in_place.specs.InPlace.{sessionIn, SizedAs, IndexedIn};
-ghost use Rattle.collect.specs.Answering.{Keeps};
-ghost use Rattle.dialogue.specs.Taking.{Takes, Led};
-ghost use Rattle.threeways.specs.Running.{EndsWith};
-
-// What is known after a block, the state of the session, and whether its replies were written.
-struct Known {
-    reader: Reader,
-    state: State,
-    written: bool,
-}
-
-// Takes the lines of a block, and writes their replies.
-fn take_block(
-    r: Reader,
-    st: State,
-    block: &[u8],
-    line: &mut [u8],
-    numbers: &mut [u16],
-    links: &mut [u16],
-    table: &mut [u16],
-    used: &mut [u8],
-    births: &mut [u16],
-    order: &mut [u16],
-    tree1: &mut [u16],
-    tree2: &mut [u16],
-    tree3: &mut [u16],
-    index: &mut [u16],
-    out: &mut [u8],
-) -> Known
-    requires { ⌜ (length (now line) ≡ 6145) × (3072 ≤ length (now numbers)) × (length (now links) ≡ 8192) × (8192 ≤ length (now out)) × SizedAs (now table) (now used) (now births) (now order) (now tree1) (now tree2) (now tree3) × IndexedIn st (now table) (now index) ⌝ }
-    ensures { λ k. ⌜ (k .written ≡ true → Takes r (sessionIn st (now (table .entry)) (now (used .entry)) (now (births .entry)) (now (order .entry)) (now (tree1 .entry)) (now (tree2 .entry)) (now (tree3 .entry))) (now (links .entry)) (now (line .entry)) (now (block .entry)) (k .reader) (sessionIn (k .state) (now (table .exit)) (now (used .exit)) (now (births .exit)) (now (order .exit)) (now (tree1 .exit)) (now (tree2 .exit)) (now (tree3 .exit))) (now (links .exit)) (now (line .exit))) ⌝ }
-    ensures { λ k. ⌜ Keeps 3072 (now (numbers .entry)) (now (numbers .exit)) × IndexedIn (k .state) (now (table .exit)) (now (index .exit)) ⌝ }
-{
-    let mut reader = r;
-    let mut state = st;
-    let mut from = 0;
-    while from < block.len() {
-        let taken = dialogue::take_lines(
-            reader,
-            state,
-            block,
-            from,
-            line,
-            numbers,
-            links,
-            table,
-            used,
-            births,
-            order,
-            tree1,
-            tree2,
-            tree3,
-            index,
-            out,
-        );
-        reader = taken.reader;
-        state = taken.state;
-        from = taken.next;
-        if !io::write_all(1, dialogue::reply(out, taken.written)) {
-            return Known {
-                reader,
-                state,
-                written: false,
-            };
-        }
-    }
-    Known {
-        reader,
-        state,
-        written: true,
-    }
-}
-
-// How a run ends: with the input, where no more is read, or where a read or a write failed.
-enum End {
-    Input,
-    Over,
-    NotRead,
-    NotWritten,
-}
-
-// What is known where a run ends, the state of the session, and how it ends.
-struct Ended {
-    reader: Reader,
-    state: State,
-    end: End,
-}
-
-// At the end of the input: answers a final line without line feed.
-fn end_input(
-    r: Reader,
-    st: State,
-    line: &mut [u8],
-    numbers: &mut [u16],
-    links: &mut [u16],
-    table: &mut [u16],
-    used: &mut [u8],
-    births: &mut [u16],
-    order: &mut [u16],
-    tree1: &mut [u16],
-    tree2: &mut [u16],
-    tree3: &mut [u16],
-    index: &mut [u16],
-    out: &mut [u8],
-) -> Ended
-    requires { ⌜ (length (now line) ≡ 6145) × (3072 ≤ length (now numbers)) × (length (now links) ≡ 8192) × (8192 ≤ length (now out)) × SizedAs (now table) (now used) (now births) (now order) (now tree1) (now tree2) (now tree3) × IndexedIn st (now table) (now index) ⌝ }
-    ensures { λ k. ⌜ (Led r (sessionIn st (now (table .entry)) (now (used .entry)) (now (births .entry)) (now (order .entry)) (now (tree1 .entry)) (now (tree2 .entry)) (now (tree3 .entry))) (now (links .entry)) (now (line .entry)) → EndsWith (k .end) (k .reader) (sessionIn (k .state) (now (table .exit)) (now (used .exit)) (now (births .exit)) (now (order .exit)) (now (tree1 .exit)) (now (tree2 .exit)) (now (tree3 .exit))) (now (links .exit)) (now (line .exit))) ⌝ }
-{
-    let finished = dialogue::finish(
-        r,
-        st,
-        line,
-        numbers,
-        links,
-        table,
-        used,
-        births,
-        order,
-        tree1,
-        tree2,
-        tree3,
-        index,
-        out,
-    );
-    let reader = finished.reader;
-    let state = finished.state;
-    if io::write_all(1, dialogue::reply(out, finished.written)) {
-        return Ended {
-            reader,
-            state,
-            end: End::Input,
-        };
-    }
-    Ended {
-        reader,
-        state,
-        end: End::NotWritten,
-    }
-}
+ghost use Rattle.in_place.specs.InPlace.{sessionIn, SizedAs};
+ghost use Rattle.blocks.specs.Running.{EndsWith};
 
 // Reads blocks to the end of the input, or until no more is read, or a read or a write fails.
 // A proved loop has to end, and nothing says that an input does: it counts its turns down from a number that no run uses up.
@@ -179,7 +41,7 @@ fn run(
         }
         let n = io::count(got, &block);
         if n == 0 {
-            return end_input(
+            return blocks::end_input(
                 reader,
                 state,
                 line,
@@ -196,7 +58,7 @@ fn run(
                 out,
             );
         }
-        let known = take_block(
+        let known = blocks::take_block(
             reader,
             state,
             &block[..n],

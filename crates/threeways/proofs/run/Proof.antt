@@ -8,7 +8,7 @@ use Rattle.in_place.specs.InPlace.{sessionIn, IndexedIn}
 use Rattle.dialogue.proofs.Slices.{Lent, lent-begin, lent-again, Stored, stored-begin, stored-again}
 use Rattle.dialogue.specs.Taking.{Led}
 use Rattle.dialogue.proofs.Inputs.{led-start, led-block, led-over}
-use Rattle.threeways.specs.Running.{EndsWith}
+use Rattle.blocks.specs.Running.{EndsWith}
 use borrow.Author.Needs.{needs}
 use Rattle.threeways.proofs.run.Statement.{statement}
 use Rattle.threeways.proofs.run.Tie as tie
@@ -23,7 +23,6 @@ Inv-loop line₀ numbers₀ links₀ table₀ used₀ births₀ order₀ tree1�
 abbrev μ-loop : tie.MeasureT-loop
 μ-loop line₀ numbers₀ links₀ table₀ used₀ births₀ order₀ tree1₀ tree2₀ tree3₀ index₀ out₀ reader₀ state₀ turns₀ line numbers links table used births order tree1 tree2 tree3 index out reader state turns = turns
 
--- src/main.rt:170:9
 -- the ways back: from the loop to where the session is cleared, and from there to the start
 abbrev at-clear : tie.At-loop Inv-loop μ-loop → tie.After-clear Inv-loop μ-loop
 at-clear c = c .before .before .before .before .before .before .before .before .before .before .before .before .before .before .before .before .before
@@ -76,11 +75,9 @@ led c =
 start-requires : tie.Need-start-requires Inv-loop μ-loop
 start-requires c κs = search needs
 
--- src/main.rt:171:9
 clear-requires : tie.Need-clear-requires Inv-loop μ-loop
 clear-requires c κs = c .before .before .before .before .before .before .before .before .before .before .before .before .before .before .before .before .before .before .before .before .before .pre .4
 
--- src/main.rt:182:5
 loop-holds : tie.Need-loop-holds Inv-loop μ-loop
 loop-holds c =
     let at = c .before .before .before .before .before .before .before .before .before .before .before .before .before .before .before .before in
@@ -98,221 +95,169 @@ loop-holds c =
       at .clear .ensures .1,
     )
 
--- src/main.rt:183:9
 sub-turns : tie.Need-sub-turns Inv-loop μ-loop
 sub-turns c = search needs
 
--- src/main.rt:184:25
 buffer-requires : tie.Need-buffer-requires Inv-loop μ-loop
 buffer-requires c κs = search needs
 
--- src/main.rt:185:33
 slice-aggregate-read : tie.Need-slice-aggregate-read Inv-loop μ-loop
 slice-aggregate-read c = search needs
 
--- src/main.rt:185:13
 read-requires : tie.Need-read-requires Inv-loop μ-loop
 read-requires c κs = search needs
 
--- src/main.rt:189:32
 slice-aggregate-count : tie.Need-slice-aggregate-count Inv-loop μ-loop
 slice-aggregate-count c = search needs
 
--- src/main.rt:189:13
 count-requires : tie.Need-count-requires Inv-loop μ-loop
 count-requires c κs = search needs
 
--- src/main.rt:191:13
 end-input-requires : tie.Need-end-input-requires Inv-loop μ-loop
 end-input-requires c κs =
     let l = count-loop (c .before .before .before .before .before .before .before .before .before .before .before .before .before) .loop in
     let z = l .inv .1 in
     (z .line-long, z .numbers-long, z .links-long, z .out-long, l .inv .2 .sized, l .inv .3)
 
--- src/main.rt:191:13
 same-length : tie.Need-same-length Inv-loop μ-loop
 same-length c = let e = at-end c in e .end-input .kept .1 .1 .0 ∙ (end-loop e) .loop .inv .1 .line-same
 
--- src/main.rt:191:13
 same-length-2 : tie.Need-same-length-2 Inv-loop μ-loop
 same-length-2 c = let e = at-end c in e .end-input .kept .1 .1 .1 .0 ∙ (end-loop e) .loop .inv .1 .numbers-same
 
--- src/main.rt:191:13
 same-length-3 : tie.Need-same-length-3 Inv-loop μ-loop
 same-length-3 c = let e = at-end c in e .end-input .kept .1 .1 .1 .1 .0 ∙ (end-loop e) .loop .inv .1 .links-same
 
--- src/main.rt:191:13
 same-length-4 : tie.Need-same-length-4 Inv-loop μ-loop
 same-length-4 c = let e = at-end c in e .end-input .kept .1 .1 .1 .1 .1 .0 ∙ (end-loop e) .loop .inv .2 .table-same ∙ at-clear (end-loop e) .clear .kept .0
 
--- src/main.rt:191:13
 same-length-5 : tie.Need-same-length-5 Inv-loop μ-loop
 same-length-5 c = let e = at-end c in e .end-input .kept .1 .1 .1 .1 .1 .1 .0 ∙ (end-loop e) .loop .inv .2 .used-same ∙ at-clear (end-loop e) .clear .kept .1 .0
 
--- src/main.rt:191:13
 same-length-6 : tie.Need-same-length-6 Inv-loop μ-loop
 same-length-6 c = let e = at-end c in e .end-input .kept .1 .1 .1 .1 .1 .1 .1 .0 ∙ (end-loop e) .loop .inv .2 .births-same ∙ at-clear (end-loop e) .clear .kept .1 .1 .0
 
--- src/main.rt:191:13
 same-length-7 : tie.Need-same-length-7 Inv-loop μ-loop
 same-length-7 c = let e = at-end c in e .end-input .kept .1 .1 .1 .1 .1 .1 .1 .1 .0 ∙ (end-loop e) .loop .inv .2 .order-same ∙ at-clear (end-loop e) .clear .kept .1 .1 .1 .0
 
--- src/main.rt:191:13
 same-length-8 : tie.Need-same-length-8 Inv-loop μ-loop
 same-length-8 c = let e = at-end c in e .end-input .kept .1 .1 .1 .1 .1 .1 .1 .1 .1 .0 ∙ (end-loop e) .loop .inv .2 .tree1-same ∙ at-clear (end-loop e) .clear .kept .1 .1 .1 .1 .0
 
--- src/main.rt:191:13
 same-length-9 : tie.Need-same-length-9 Inv-loop μ-loop
 same-length-9 c = let e = at-end c in e .end-input .kept .1 .1 .1 .1 .1 .1 .1 .1 .1 .1 .0 ∙ (end-loop e) .loop .inv .2 .tree2-same ∙ at-clear (end-loop e) .clear .kept .1 .1 .1 .1 .1 .0
 
--- src/main.rt:191:13
 same-length-10 : tie.Need-same-length-10 Inv-loop μ-loop
 same-length-10 c = let e = at-end c in e .end-input .kept .1 .1 .1 .1 .1 .1 .1 .1 .1 .1 .1 .0 ∙ (end-loop e) .loop .inv .2 .tree3-same ∙ at-clear (end-loop e) .clear .kept .1 .1 .1 .1 .1 .1 .0
 
--- src/main.rt:191:13
 same-length-11 : tie.Need-same-length-11 Inv-loop μ-loop
 same-length-11 c = let e = at-end c in e .end-input .kept .1 .1 .1 .1 .1 .1 .1 .1 .1 .1 .1 .1 .0 ∙ (end-loop e) .loop .inv .2 .index-same ∙ at-clear (end-loop e) .clear .kept .1 .1 .1 .1 .1 .1 .1 .0
 
--- src/main.rt:191:13
 same-length-12 : tie.Need-same-length-12 Inv-loop μ-loop
 same-length-12 c = let e = at-end c in e .end-input .kept .1 .1 .1 .1 .1 .1 .1 .1 .1 .1 .1 .1 .1 .0 ∙ (end-loop e) .loop .inv .1 .out-same
 
--- src/main.rt:191:13
 returns : tie.Need-returns Inv-loop μ-loop
 returns c =
     let e = at-end c in
     e .end-input .ensures (end-loop e .loop .inv .0)
 
--- src/main.rt:211:13
 array-share-prefix-block : tie.Need-array-share-prefix-block Inv-loop μ-loop
 array-share-prefix-block c = search needs
 
--- src/main.rt:211:13
 slice-aggregate-take-block : tie.Need-slice-aggregate-take-block Inv-loop μ-loop
 slice-aggregate-take-block c = search needs
 
--- src/main.rt:208:13
 take-block-requires : tie.Need-take-block-requires Inv-loop μ-loop
 take-block-requires c κs =
     let l = count-loop (c .before .before .before .before .before .before .before .before .before .before .before .before .before .before) .loop in
     let z = l .inv .1 in
     (z .line-long, z .numbers-long, z .links-long, z .out-long, l .inv .2 .sized, l .inv .3)
 
--- src/main.rt:228:13
 same-length-13 : tie.Need-same-length-13 Inv-loop μ-loop
 same-length-13 c = let t = at-take (c .before) in t .take-block .kept .1 .1 .1 .0 ∙ (take-loop t) .loop .inv .1 .line-same
 
--- src/main.rt:228:13
 same-length-14 : tie.Need-same-length-14 Inv-loop μ-loop
 same-length-14 c = let t = at-take (c .before) in t .take-block .kept .1 .1 .1 .1 .0 ∙ (take-loop t) .loop .inv .1 .numbers-same
 
--- src/main.rt:228:13
 same-length-15 : tie.Need-same-length-15 Inv-loop μ-loop
 same-length-15 c = let t = at-take (c .before) in t .take-block .kept .1 .1 .1 .1 .1 .0 ∙ (take-loop t) .loop .inv .1 .links-same
 
--- src/main.rt:228:13
 same-length-16 : tie.Need-same-length-16 Inv-loop μ-loop
 same-length-16 c = let t = at-take (c .before) in t .take-block .kept .1 .1 .1 .1 .1 .1 .0 ∙ (take-loop t) .loop .inv .2 .table-same ∙ at-clear (take-loop t) .clear .kept .0
 
--- src/main.rt:228:13
 same-length-17 : tie.Need-same-length-17 Inv-loop μ-loop
 same-length-17 c = let t = at-take (c .before) in t .take-block .kept .1 .1 .1 .1 .1 .1 .1 .0 ∙ (take-loop t) .loop .inv .2 .used-same ∙ at-clear (take-loop t) .clear .kept .1 .0
 
--- src/main.rt:228:13
 same-length-18 : tie.Need-same-length-18 Inv-loop μ-loop
 same-length-18 c = let t = at-take (c .before) in t .take-block .kept .1 .1 .1 .1 .1 .1 .1 .1 .0 ∙ (take-loop t) .loop .inv .2 .births-same ∙ at-clear (take-loop t) .clear .kept .1 .1 .0
 
--- src/main.rt:228:13
 same-length-19 : tie.Need-same-length-19 Inv-loop μ-loop
 same-length-19 c = let t = at-take (c .before) in t .take-block .kept .1 .1 .1 .1 .1 .1 .1 .1 .1 .0 ∙ (take-loop t) .loop .inv .2 .order-same ∙ at-clear (take-loop t) .clear .kept .1 .1 .1 .0
 
--- src/main.rt:228:13
 same-length-20 : tie.Need-same-length-20 Inv-loop μ-loop
 same-length-20 c = let t = at-take (c .before) in t .take-block .kept .1 .1 .1 .1 .1 .1 .1 .1 .1 .1 .0 ∙ (take-loop t) .loop .inv .2 .tree1-same ∙ at-clear (take-loop t) .clear .kept .1 .1 .1 .1 .0
 
--- src/main.rt:228:13
 same-length-21 : tie.Need-same-length-21 Inv-loop μ-loop
 same-length-21 c = let t = at-take (c .before) in t .take-block .kept .1 .1 .1 .1 .1 .1 .1 .1 .1 .1 .1 .0 ∙ (take-loop t) .loop .inv .2 .tree2-same ∙ at-clear (take-loop t) .clear .kept .1 .1 .1 .1 .1 .0
 
--- src/main.rt:228:13
 same-length-22 : tie.Need-same-length-22 Inv-loop μ-loop
 same-length-22 c = let t = at-take (c .before) in t .take-block .kept .1 .1 .1 .1 .1 .1 .1 .1 .1 .1 .1 .1 .0 ∙ (take-loop t) .loop .inv .2 .tree3-same ∙ at-clear (take-loop t) .clear .kept .1 .1 .1 .1 .1 .1 .0
 
--- src/main.rt:228:13
 same-length-23 : tie.Need-same-length-23 Inv-loop μ-loop
 same-length-23 c = let t = at-take (c .before) in t .take-block .kept .1 .1 .1 .1 .1 .1 .1 .1 .1 .1 .1 .1 .1 .0 ∙ (take-loop t) .loop .inv .2 .index-same ∙ at-clear (take-loop t) .clear .kept .1 .1 .1 .1 .1 .1 .1 .0
 
--- src/main.rt:228:13
 same-length-24 : tie.Need-same-length-24 Inv-loop μ-loop
 same-length-24 c = let t = at-take (c .before) in t .take-block .kept .1 .1 .1 .1 .1 .1 .1 .1 .1 .1 .1 .1 .1 .1 .0 ∙ (take-loop t) .loop .inv .1 .out-same
 
--- src/main.rt:228:13
 returns-2 : tie.Need-returns-2 Inv-loop μ-loop
 unfolding EndsWith
 returns-2 c = tt
 
--- src/main.rt:234:12
 over-requires : tie.Need-over-requires Inv-loop μ-loop
 over-requires c κs = search needs
 
--- src/main.rt:235:13
 same-length-25 : tie.Need-same-length-25 Inv-loop μ-loop
 same-length-25 c = let t = at-take (c .before .before .before) in t .take-block .kept .1 .1 .1 .0 ∙ (take-loop t) .loop .inv .1 .line-same
 
--- src/main.rt:235:13
 same-length-26 : tie.Need-same-length-26 Inv-loop μ-loop
 same-length-26 c = let t = at-take (c .before .before .before) in t .take-block .kept .1 .1 .1 .1 .0 ∙ (take-loop t) .loop .inv .1 .numbers-same
 
--- src/main.rt:235:13
 same-length-27 : tie.Need-same-length-27 Inv-loop μ-loop
 same-length-27 c = let t = at-take (c .before .before .before) in t .take-block .kept .1 .1 .1 .1 .1 .0 ∙ (take-loop t) .loop .inv .1 .links-same
 
--- src/main.rt:235:13
 same-length-28 : tie.Need-same-length-28 Inv-loop μ-loop
 same-length-28 c = let t = at-take (c .before .before .before) in t .take-block .kept .1 .1 .1 .1 .1 .1 .0 ∙ (take-loop t) .loop .inv .2 .table-same ∙ at-clear (take-loop t) .clear .kept .0
 
--- src/main.rt:235:13
 same-length-29 : tie.Need-same-length-29 Inv-loop μ-loop
 same-length-29 c = let t = at-take (c .before .before .before) in t .take-block .kept .1 .1 .1 .1 .1 .1 .1 .0 ∙ (take-loop t) .loop .inv .2 .used-same ∙ at-clear (take-loop t) .clear .kept .1 .0
 
--- src/main.rt:235:13
 same-length-30 : tie.Need-same-length-30 Inv-loop μ-loop
 same-length-30 c = let t = at-take (c .before .before .before) in t .take-block .kept .1 .1 .1 .1 .1 .1 .1 .1 .0 ∙ (take-loop t) .loop .inv .2 .births-same ∙ at-clear (take-loop t) .clear .kept .1 .1 .0
 
--- src/main.rt:235:13
 same-length-31 : tie.Need-same-length-31 Inv-loop μ-loop
 same-length-31 c = let t = at-take (c .before .before .before) in t .take-block .kept .1 .1 .1 .1 .1 .1 .1 .1 .1 .0 ∙ (take-loop t) .loop .inv .2 .order-same ∙ at-clear (take-loop t) .clear .kept .1 .1 .1 .0
 
--- src/main.rt:235:13
 same-length-32 : tie.Need-same-length-32 Inv-loop μ-loop
 same-length-32 c = let t = at-take (c .before .before .before) in t .take-block .kept .1 .1 .1 .1 .1 .1 .1 .1 .1 .1 .0 ∙ (take-loop t) .loop .inv .2 .tree1-same ∙ at-clear (take-loop t) .clear .kept .1 .1 .1 .1 .0
 
--- src/main.rt:235:13
 same-length-33 : tie.Need-same-length-33 Inv-loop μ-loop
 same-length-33 c = let t = at-take (c .before .before .before) in t .take-block .kept .1 .1 .1 .1 .1 .1 .1 .1 .1 .1 .1 .0 ∙ (take-loop t) .loop .inv .2 .tree2-same ∙ at-clear (take-loop t) .clear .kept .1 .1 .1 .1 .1 .0
 
--- src/main.rt:235:13
 same-length-34 : tie.Need-same-length-34 Inv-loop μ-loop
 same-length-34 c = let t = at-take (c .before .before .before) in t .take-block .kept .1 .1 .1 .1 .1 .1 .1 .1 .1 .1 .1 .1 .0 ∙ (take-loop t) .loop .inv .2 .tree3-same ∙ at-clear (take-loop t) .clear .kept .1 .1 .1 .1 .1 .1 .0
 
--- src/main.rt:235:13
 same-length-35 : tie.Need-same-length-35 Inv-loop μ-loop
 same-length-35 c = let t = at-take (c .before .before .before) in t .take-block .kept .1 .1 .1 .1 .1 .1 .1 .1 .1 .1 .1 .1 .1 .0 ∙ (take-loop t) .loop .inv .2 .index-same ∙ at-clear (take-loop t) .clear .kept .1 .1 .1 .1 .1 .1 .1 .0
 
--- src/main.rt:235:13
 same-length-36 : tie.Need-same-length-36 Inv-loop μ-loop
 same-length-36 c = let t = at-take (c .before .before .before) in t .take-block .kept .1 .1 .1 .1 .1 .1 .1 .1 .1 .1 .1 .1 .1 .1 .0 ∙ (take-loop t) .loop .inv .1 .out-same
 
--- src/main.rt:235:13
 returns-3 : tie.Need-returns-3 Inv-loop μ-loop
 unfolding EndsWith
 returns-3 c = led-over (led (c .before .before)) (c .before .over .result) (c .before .over .ensures) (c .if4 .taken)
 
--- src/main.rt:182:5
 loop-less : tie.Need-loop-less Inv-loop μ-loop
 loop-less c = omega (arith, count-body (at-count (at-take (c .before .before .before))) .loop-test .taken)
 
--- src/main.rt:182:5
 loop-again : tie.Need-loop-again Inv-loop μ-loop
 loop-again c =
     let at = at-take (c .before .before .before) in
@@ -326,108 +271,82 @@ loop-again c =
       t .ensures .1 .1,
     )
 
--- src/main.rt:153:1
 same-length-37 : tie.Need-same-length-37 Inv-loop μ-loop
 same-length-37 c = (c .before) .loop .inv .1 .line-same
 
--- src/main.rt:153:1
 same-length-38 : tie.Need-same-length-38 Inv-loop μ-loop
 same-length-38 c = (c .before) .loop .inv .1 .numbers-same
 
--- src/main.rt:153:1
 same-length-39 : tie.Need-same-length-39 Inv-loop μ-loop
 same-length-39 c = (c .before) .loop .inv .1 .links-same
 
--- src/main.rt:153:1
 same-length-40 : tie.Need-same-length-40 Inv-loop μ-loop
 same-length-40 c = (c .before) .loop .inv .2 .table-same ∙ at-clear (c .before) .clear .kept .0
 
--- src/main.rt:153:1
 same-length-41 : tie.Need-same-length-41 Inv-loop μ-loop
 same-length-41 c = (c .before) .loop .inv .2 .used-same ∙ at-clear (c .before) .clear .kept .1 .0
 
--- src/main.rt:153:1
 same-length-42 : tie.Need-same-length-42 Inv-loop μ-loop
 same-length-42 c = (c .before) .loop .inv .2 .births-same ∙ at-clear (c .before) .clear .kept .1 .1 .0
 
--- src/main.rt:153:1
 same-length-43 : tie.Need-same-length-43 Inv-loop μ-loop
 same-length-43 c = (c .before) .loop .inv .2 .order-same ∙ at-clear (c .before) .clear .kept .1 .1 .1 .0
 
--- src/main.rt:153:1
 same-length-44 : tie.Need-same-length-44 Inv-loop μ-loop
 same-length-44 c = (c .before) .loop .inv .2 .tree1-same ∙ at-clear (c .before) .clear .kept .1 .1 .1 .1 .0
 
--- src/main.rt:153:1
 same-length-45 : tie.Need-same-length-45 Inv-loop μ-loop
 same-length-45 c = (c .before) .loop .inv .2 .tree2-same ∙ at-clear (c .before) .clear .kept .1 .1 .1 .1 .1 .0
 
--- src/main.rt:153:1
 same-length-46 : tie.Need-same-length-46 Inv-loop μ-loop
 same-length-46 c = (c .before) .loop .inv .2 .tree3-same ∙ at-clear (c .before) .clear .kept .1 .1 .1 .1 .1 .1 .0
 
--- src/main.rt:153:1
 same-length-47 : tie.Need-same-length-47 Inv-loop μ-loop
 same-length-47 c = (c .before) .loop .inv .2 .index-same ∙ at-clear (c .before) .clear .kept .1 .1 .1 .1 .1 .1 .1 .0
 
--- src/main.rt:153:1
 same-length-48 : tie.Need-same-length-48 Inv-loop μ-loop
 same-length-48 c = (c .before) .loop .inv .1 .out-same
 
--- src/main.rt:153:1
 returns-4 : tie.Need-returns-4 Inv-loop μ-loop
 unfolding EndsWith
 returns-4 c = c .before .loop .inv .0
 
--- src/main.rt:153:1
 same-length-49 : tie.Need-same-length-49 Inv-loop μ-loop
 same-length-49 c = let l = before-read (c .before) in l .loop .inv .1 .line-same
 
--- src/main.rt:153:1
 same-length-50 : tie.Need-same-length-50 Inv-loop μ-loop
 same-length-50 c = let l = before-read (c .before) in l .loop .inv .1 .numbers-same
 
--- src/main.rt:153:1
 same-length-51 : tie.Need-same-length-51 Inv-loop μ-loop
 same-length-51 c = let l = before-read (c .before) in l .loop .inv .1 .links-same
 
--- src/main.rt:153:1
 same-length-52 : tie.Need-same-length-52 Inv-loop μ-loop
 same-length-52 c = let l = before-read (c .before) in l .loop .inv .2 .table-same ∙ at-clear l .clear .kept .0
 
--- src/main.rt:153:1
 same-length-53 : tie.Need-same-length-53 Inv-loop μ-loop
 same-length-53 c = let l = before-read (c .before) in l .loop .inv .2 .used-same ∙ at-clear l .clear .kept .1 .0
 
--- src/main.rt:153:1
 same-length-54 : tie.Need-same-length-54 Inv-loop μ-loop
 same-length-54 c = let l = before-read (c .before) in l .loop .inv .2 .births-same ∙ at-clear l .clear .kept .1 .1 .0
 
--- src/main.rt:153:1
 same-length-55 : tie.Need-same-length-55 Inv-loop μ-loop
 same-length-55 c = let l = before-read (c .before) in l .loop .inv .2 .order-same ∙ at-clear l .clear .kept .1 .1 .1 .0
 
--- src/main.rt:153:1
 same-length-56 : tie.Need-same-length-56 Inv-loop μ-loop
 same-length-56 c = let l = before-read (c .before) in l .loop .inv .2 .tree1-same ∙ at-clear l .clear .kept .1 .1 .1 .1 .0
 
--- src/main.rt:153:1
 same-length-57 : tie.Need-same-length-57 Inv-loop μ-loop
 same-length-57 c = let l = before-read (c .before) in l .loop .inv .2 .tree2-same ∙ at-clear l .clear .kept .1 .1 .1 .1 .1 .0
 
--- src/main.rt:153:1
 same-length-58 : tie.Need-same-length-58 Inv-loop μ-loop
 same-length-58 c = let l = before-read (c .before) in l .loop .inv .2 .tree3-same ∙ at-clear l .clear .kept .1 .1 .1 .1 .1 .1 .0
 
--- src/main.rt:153:1
 same-length-59 : tie.Need-same-length-59 Inv-loop μ-loop
 same-length-59 c = let l = before-read (c .before) in l .loop .inv .2 .index-same ∙ at-clear l .clear .kept .1 .1 .1 .1 .1 .1 .1 .0
 
--- src/main.rt:153:1
 same-length-60 : tie.Need-same-length-60 Inv-loop μ-loop
 same-length-60 c = let l = before-read (c .before) in l .loop .inv .1 .out-same
 
--- src/main.rt:153:1
 returns-5 : tie.Need-returns-5 Inv-loop μ-loop
 unfolding EndsWith
 returns-5 c = before-read (c .before) .loop .inv .0

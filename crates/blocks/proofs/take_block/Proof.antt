@@ -9,8 +9,8 @@ use Rattle.collect.specs.Answering.{readerIn}
 use Rattle.dialogue.proofs.Slices.{Lent, lent-begin, lent-again, Stored, stored-begin, stored-again}
 use Rattle.dialogue.proofs.Blocks.{StandsAt, stands-end, stands-lines}
 use borrow.Author.Needs.{needs}
-use Rattle.threeways.proofs.take_block.Statement.{statement}
-use Rattle.threeways.proofs.take_block.Tie as tie
+use Rattle.blocks.proofs.take_block.Statement.{statement}
+use Rattle.blocks.proofs.take_block.Tie as tie
 
 abbrev Inv-loop : tie.InvT-loop
 Inv-loop block line₀ numbers₀ links₀ table₀ used₀ births₀ order₀ tree1₀ tree2₀ tree3₀ index₀ out₀ reader₀ state₀ from₀ line numbers links table used births order tree1 tree2 tree3 index out reader state from =
@@ -23,7 +23,6 @@ Inv-loop block line₀ numbers₀ links₀ table₀ used₀ births₀ order₀ t
 abbrev μ-loop : tie.MeasureT-loop
 μ-loop block line₀ numbers₀ links₀ table₀ used₀ births₀ order₀ tree1₀ tree2₀ tree3₀ index₀ out₀ reader₀ state₀ from₀ line numbers links table used births order tree1 tree2 tree3 index out reader state from = length block - from
 
--- src/main.rt:47:5
 -- where the lines are taken, from where the replies are written; the loop's body, and the loop
 abbrev at-take : tie.After-write-all Inv-loop μ-loop → tie.After-take-lines Inv-loop μ-loop
 at-take c = c .before .before .before .before .before .before .before .before .before .before .before .before .before .before .before .before .before .before .before .before .before .before .before .before .before .before .before .before .before
@@ -46,77 +45,60 @@ loop-holds c =
       p .5,
     )
 
--- src/main.rt:48:13
 take-lines-requires : tie.Need-take-lines-requires Inv-loop μ-loop
 take-lines-requires c κs =
     let l = c .before .before .before .before .before .before .before .before .before .before .before .before .before .loop in
     let z = l .inv .2 in
     (l .inv .1, z .line-long, z .numbers-long, z .links-long, z .out-long, l .inv .3 .sized, l .inv .4)
 
--- src/main.rt:69:30
 reply-requires : tie.Need-reply-requires Inv-loop μ-loop
 reply-requires c κs = search needs
 
--- src/main.rt:69:13
 write-all-requires : tie.Need-write-all-requires Inv-loop μ-loop
 write-all-requires c κs = search needs
 
--- src/main.rt:70:13
 same-length : tie.Need-same-length Inv-loop μ-loop
 same-length c = let at = at-take (c .before) in at .take-lines .kept .1 .1 .1 .1 .0 ∙ at-loop at .loop .inv .2 .line-same
 
--- src/main.rt:70:13
 same-length-2 : tie.Need-same-length-2 Inv-loop μ-loop
 same-length-2 c = let at = at-take (c .before) in at .take-lines .kept .1 .1 .1 .1 .1 .0 ∙ at-loop at .loop .inv .2 .numbers-same
 
--- src/main.rt:70:13
 same-length-3 : tie.Need-same-length-3 Inv-loop μ-loop
 same-length-3 c = let at = at-take (c .before) in at .take-lines .kept .1 .1 .1 .1 .1 .1 .0 ∙ at-loop at .loop .inv .2 .links-same
 
--- src/main.rt:70:13
 same-length-4 : tie.Need-same-length-4 Inv-loop μ-loop
 same-length-4 c = let at = at-take (c .before) in at .take-lines .kept .1 .1 .1 .1 .1 .1 .1 .0 ∙ at-loop at .loop .inv .3 .table-same
 
--- src/main.rt:70:13
 same-length-5 : tie.Need-same-length-5 Inv-loop μ-loop
 same-length-5 c = let at = at-take (c .before) in at .take-lines .kept .1 .1 .1 .1 .1 .1 .1 .1 .0 ∙ at-loop at .loop .inv .3 .used-same
 
--- src/main.rt:70:13
 same-length-6 : tie.Need-same-length-6 Inv-loop μ-loop
 same-length-6 c = let at = at-take (c .before) in at .take-lines .kept .1 .1 .1 .1 .1 .1 .1 .1 .1 .0 ∙ at-loop at .loop .inv .3 .births-same
 
--- src/main.rt:70:13
 same-length-7 : tie.Need-same-length-7 Inv-loop μ-loop
 same-length-7 c = let at = at-take (c .before) in at .take-lines .kept .1 .1 .1 .1 .1 .1 .1 .1 .1 .1 .0 ∙ at-loop at .loop .inv .3 .order-same
 
--- src/main.rt:70:13
 same-length-8 : tie.Need-same-length-8 Inv-loop μ-loop
 same-length-8 c = let at = at-take (c .before) in at .take-lines .kept .1 .1 .1 .1 .1 .1 .1 .1 .1 .1 .1 .0 ∙ at-loop at .loop .inv .3 .tree1-same
 
--- src/main.rt:70:13
 same-length-9 : tie.Need-same-length-9 Inv-loop μ-loop
 same-length-9 c = let at = at-take (c .before) in at .take-lines .kept .1 .1 .1 .1 .1 .1 .1 .1 .1 .1 .1 .1 .0 ∙ at-loop at .loop .inv .3 .tree2-same
 
--- src/main.rt:70:13
 same-length-10 : tie.Need-same-length-10 Inv-loop μ-loop
 same-length-10 c = let at = at-take (c .before) in at .take-lines .kept .1 .1 .1 .1 .1 .1 .1 .1 .1 .1 .1 .1 .1 .0 ∙ at-loop at .loop .inv .3 .tree3-same
 
--- src/main.rt:70:13
 same-length-11 : tie.Need-same-length-11 Inv-loop μ-loop
 same-length-11 c = let at = at-take (c .before) in at .take-lines .kept .1 .1 .1 .1 .1 .1 .1 .1 .1 .1 .1 .1 .1 .1 .0 ∙ at-loop at .loop .inv .3 .index-same
 
--- src/main.rt:70:13
 same-length-12 : tie.Need-same-length-12 Inv-loop μ-loop
 same-length-12 c = let at = at-take (c .before) in at .take-lines .kept .1 .1 .1 .1 .1 .1 .1 .1 .1 .1 .1 .1 .1 .1 .1 .0 ∙ at-loop at .loop .inv .2 .out-same
 
--- src/main.rt:70:13
 returns : tie.Need-returns Inv-loop μ-loop
 returns c =
     let at = at-take (c .before) in
     let t = at .take-lines in
     (λ q. absurd (true≢false (sym q)), (t .ensures .1 .1 .1 ∙ at-loop at .loop .inv .2 .numbers-kept, t .ensures .1 .1 .2))
 
--- src/main.rt:47:5
 loop-less : tie.Need-loop-less Inv-loop μ-loop
 loop-less c =
     let at = at-take (c .before) in
@@ -124,7 +106,6 @@ loop-less c =
     let test = in-loop at .loop-test .taken in
     omega (arith, t .ensures .1 .0 .1 (omega (arith, test)), t .ensures .1 .0 .0, test)
 
--- src/main.rt:47:5
 loop-again : tie.Need-loop-again Inv-loop μ-loop
 loop-again c =
     let at = at-take (c .before) in
@@ -139,55 +120,42 @@ loop-again c =
       t .ensures .1 .1 .2,
     )
 
--- src/main.rt:23:1
 same-length-13 : tie.Need-same-length-13 Inv-loop μ-loop
 same-length-13 c = c .before .loop .inv .2 .line-same
 
--- src/main.rt:23:1
 same-length-14 : tie.Need-same-length-14 Inv-loop μ-loop
 same-length-14 c = c .before .loop .inv .2 .numbers-same
 
--- src/main.rt:23:1
 same-length-15 : tie.Need-same-length-15 Inv-loop μ-loop
 same-length-15 c = c .before .loop .inv .2 .links-same
 
--- src/main.rt:23:1
 same-length-16 : tie.Need-same-length-16 Inv-loop μ-loop
 same-length-16 c = c .before .loop .inv .3 .table-same
 
--- src/main.rt:23:1
 same-length-17 : tie.Need-same-length-17 Inv-loop μ-loop
 same-length-17 c = c .before .loop .inv .3 .used-same
 
--- src/main.rt:23:1
 same-length-18 : tie.Need-same-length-18 Inv-loop μ-loop
 same-length-18 c = c .before .loop .inv .3 .births-same
 
--- src/main.rt:23:1
 same-length-19 : tie.Need-same-length-19 Inv-loop μ-loop
 same-length-19 c = c .before .loop .inv .3 .order-same
 
--- src/main.rt:23:1
 same-length-20 : tie.Need-same-length-20 Inv-loop μ-loop
 same-length-20 c = c .before .loop .inv .3 .tree1-same
 
--- src/main.rt:23:1
 same-length-21 : tie.Need-same-length-21 Inv-loop μ-loop
 same-length-21 c = c .before .loop .inv .3 .tree2-same
 
--- src/main.rt:23:1
 same-length-22 : tie.Need-same-length-22 Inv-loop μ-loop
 same-length-22 c = c .before .loop .inv .3 .tree3-same
 
--- src/main.rt:23:1
 same-length-23 : tie.Need-same-length-23 Inv-loop μ-loop
 same-length-23 c = c .before .loop .inv .3 .index-same
 
--- src/main.rt:23:1
 same-length-24 : tie.Need-same-length-24 Inv-loop μ-loop
 same-length-24 c = c .before .loop .inv .2 .out-same
 
--- src/main.rt:23:1
 returns-2 : tie.Need-returns-2 Inv-loop μ-loop
 returns-2 c =
     let l = c .before .loop in
