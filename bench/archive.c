@@ -9,7 +9,7 @@
 
 #include "threeways.h"
 
-enum { LINE = 6146, MAX_EARS = 4096, LIST = 20480, ANY = 65535, STACK = 4 << 20, GUARD = 4096 };
+enum { LINE = 6146, MAX_EARS = 4096, LIST = 20480, ANY = 65535, STACK = 1 << 16, GUARD = 4096 };
 
 #define PAINT UINT64_C(0xa5a5a5a5a5a5a5a5)
 

@@ -85,12 +85,17 @@ impl Session {
         Ok(self.tables_for(switch, tree)?.walk(switch, tree))
     }
 
+    /// Writes the walk at the start of the slice, and gives its count of switches.
+    pub fn walk_into(&self, switch: u16, tree: u16, out: &mut [u16]) -> Result<usize, Refusal> {
+        let count = self.tables_for(switch, tree)?.write_walk(switch, tree, out);
+        count.map_or(refuse(18, 0), Ok)
+    }
+
     /// The walk that is written into a slice with room for so many numbers.
     pub fn walk_within(&self, switch: u16, tree: u16, room: usize) -> Result<Vec<u16>, Refusal> {
-        let walk = self.walk(switch, tree)?;
-        if walk.len() > room {
-            return refuse(18, 0);
-        }
+        let mut walk = vec![0; room];
+        let count = self.walk_into(switch, tree, &mut walk)?;
+        walk.truncate(count);
         Ok(walk)
     }
 

@@ -1,6 +1,8 @@
 //! The order, the three parent tables and the walks of a closed session (document 01,
 //! 'Order, tables and walks'), and its births, from which zones are found.
 
+use std::iter::successors;
+
 use crate::judge::Judge;
 use crate::order::Order;
 use crate::Plant;
@@ -82,6 +84,15 @@ impl Tables {
             assert!(walk.len() <= self.switches, "a walk has at most N switches");
         }
         walk
+    }
+
+    /// Writes that walk at the start of a slice that has room for it, and gives its count of switches.
+    pub fn write_walk(&self, switch: u16, tree: u16, out: &mut [u16]) -> Option<usize> {
+        let row = &self.parents[tree as usize - 1];
+        let walk = successors(Some(switch), |&at| (at != self.root).then(|| row[at as usize])).take(self.switches);
+        let count = walk.clone().count();
+        out.get_mut(..count)?.iter_mut().zip(walk).for_each(|(place, at)| *place = at);
+        Some(count)
     }
 }
 

@@ -1,6 +1,6 @@
-//! `second-list PLAN` loads the network of a plan, offers its ears as one list, closes, and asks for the zones of some
-//! sizes, in functions that a profiler finds by name (`bench/archive`). It prints the count of ears accepted, and ends
-//! with 1 where anything is refused.
+//! `second-list PLAN` loads the network of a plan, offers its ears as one list, closes, and asks for all walks and for
+//! the zones of some sizes, in functions that a profiler finds by name (`bench/archive`). It prints the count of ears
+//! accepted, and ends with 1 where anything is refused.
 
 use std::process::ExitCode;
 
@@ -19,6 +19,12 @@ pub fn measured_load(session: &mut Session, site: &Site) -> Result<(usize, usize
 #[inline(never)]
 pub fn measured_ears(session: &mut Session, list: &[u16]) -> (usize, Option<Refusal>) {
     session.ears(list)
+}
+
+#[no_mangle]
+#[inline(never)]
+pub fn measured_walk(session: &Session, switch: u16, tree: u16, out: &mut [u16]) -> Result<usize, Refusal> {
+    session.walk_into(switch, tree, out)
 }
 
 #[no_mangle]
@@ -58,11 +64,13 @@ fn main() -> ExitCode {
     let loaded = measured_load(&mut session, &site);
     let (accepted, refusal) = measured_ears(&mut session, &list);
     println!("{accepted}");
-    let mut zones = [0; MAX_SWITCHES];
     if loaded.is_err() || refusal.is_some() || session.close().is_err() {
         return ExitCode::FAILURE;
     }
-    match sizes(site.switches).into_iter().all(|sizes| measured_zones(&session, sizes, &mut zones).is_ok()) {
+    let mut out = [0; MAX_SWITCHES];
+    let mut walks = (1..=3).flat_map(|tree| (0..site.switches).map(move |switch| (switch, tree)));
+    let walked = walks.all(|(switch, tree)| measured_walk(&session, switch, tree, &mut out).is_ok());
+    match walked && sizes(site.switches).into_iter().all(|sizes| measured_zones(&session, sizes, &mut out).is_ok()) {
         true => ExitCode::SUCCESS,
         false => ExitCode::FAILURE,
     }

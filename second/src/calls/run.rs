@@ -15,9 +15,6 @@ use crate::seen::{CrossedEars, EmptyEars, Seen, Zones};
 use crate::session::ears_of;
 use crate::Plant;
 
-/// A walk on memory that no calls made may go on for 65,535 switches, and it calls itself for each.
-const STACK: usize = 64 << 20;
-
 /// With so many calls or more, every refusal has to be seen, every answer to an empty ear and to zones, and both
 /// crossed ears.
 const ENOUGH: usize = 100_000;
@@ -58,12 +55,7 @@ pub struct Difference {
 
 /// Makes so many calls. The faults are put in on purpose, into the second program and behind the archive.
 pub fn run(seed: u64, count: usize, plant: Plant, fault: Fault) -> Result<Counts, Difference> {
-    std::thread::scope(|scope| {
-        let run = || Run::new(count, plant, fault).all(seed);
-        let thread = std::thread::Builder::new().stack_size(STACK).spawn_scoped(scope, run);
-        let counts = thread.expect("a thread with a larger stack starts").join();
-        counts.unwrap_or_else(|panic| std::panic::resume_unwind(panic))
-    })
+    Run::new(count, plant, fault).all(seed)
 }
 
 struct Run {
