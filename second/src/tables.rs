@@ -1,8 +1,6 @@
 //! The order, the three parent tables and the walks of a closed session (document 01,
 //! 'Order, tables and walks'), and its births, from which zones are found.
 
-use std::iter::successors;
-
 use crate::judge::Judge;
 use crate::order::Order;
 use crate::Plant;
@@ -89,9 +87,17 @@ impl Tables {
     /// Writes that walk at the start of a slice that has room for it, and gives its count of switches.
     pub fn write_walk(&self, switch: u16, tree: u16, out: &mut [u16]) -> Option<usize> {
         let row = &self.parents[tree as usize - 1];
-        let walk = successors(Some(switch), |&at| (at != self.root).then(|| row[at as usize])).take(self.switches);
-        let count = walk.clone().count();
-        out.get_mut(..count)?.iter_mut().zip(walk).for_each(|(place, at)| *place = at);
+        let (mut at, mut count) = (switch, 1);
+        while at != self.root {
+            at = row[at as usize];
+            count += 1;
+            assert!(count <= self.switches, "a walk has at most N switches");
+        }
+        at = switch;
+        for place in out.get_mut(..count)? {
+            *place = at;
+            at = row[at as usize];
+        }
         Some(count)
     }
 }

@@ -49,7 +49,7 @@ take-lines-requires : tie.Need-take-lines-requires Inv-loop μ-loop
 take-lines-requires c κs =
     let l = c .before .before .before .before .before .before .before .before .before .before .before .before .before .loop in
     let z = l .inv .2 in
-    (l .inv .1, z .line-long, z .numbers-long, z .links-long, z .out-long, l .inv .3 .sized, l .inv .4)
+    (omega (arith, l .inv .1), z .line-long, z .numbers-long, z .links-long, z .out-long, l .inv .3 .sized, l .inv .4)
 
 reply-requires : tie.Need-reply-requires Inv-loop μ-loop
 reply-requires c κs = search needs
