@@ -113,6 +113,13 @@ struct threeways_refusal threeways_close_in(
     const uint16_t *births, size_t births_count,
     uint16_t *tree3, size_t tree3_count);
 
+struct threeways_refusal threeways_bring_over_in(
+    uint16_t stage, uint16_t n, uint16_t m, uint16_t root,
+    uint16_t first, uint16_t last, uint16_t longs, uint16_t born,
+    const uint16_t *links, size_t links_count,
+    const uint16_t *births, size_t births_count,
+    uint16_t *tree3, size_t tree3_count);
+
 struct threeways_refusal threeways_parent_in(
     uint16_t stage, uint16_t n, uint16_t m, uint16_t root,
     uint16_t first, uint16_t last, uint16_t longs, uint16_t born,
@@ -181,11 +188,21 @@ static inline struct threeways_refusal threeways_ears(struct threeways_session *
         THREEWAYS_ARRAY(s->tree1), THREEWAYS_ARRAY(s->tree2), list, numbers, accepted);
 }
 
-/* Closes an open session: the three tables are set. Refusals 19, 22, then 23. */
+/* Closes an open session: the three tables are set. In tree 3 a switch other than root and last has, among its neighbours born in a later
+ * ear, one whose own walk in tree 3 is shortest, and the lowest number among those. Refusals 19, 22, then 23. */
 static inline struct threeways_refusal threeways_close(struct threeways_session *s)
 {
     return threeways_close_in(&s->stage, s->n, s->m, s->root, s->first, s->last, s->longs, s->born,
         THREEWAYS_ARRAY(s->links), THREEWAYS_ARRAY(s->used), THREEWAYS_ARRAY(s->births), THREEWAYS_ARRAY(s->tree3));
+}
+
+/* Brings over a closed session whose tree 3 was set by the rule before, the lowest number among the neighbours born in a later ear:
+ * tree 3 is then as threeways_close sets it, and all else stays. A session that was closed by threeways_close as it is, or that was
+ * brought over before, does not change. Refusals 19, then 21. */
+static inline struct threeways_refusal threeways_bring_over(struct threeways_session *s)
+{
+    return threeways_bring_over_in(s->stage, s->n, s->m, s->root, s->first, s->last, s->longs, s->born,
+        THREEWAYS_ARRAY(s->links), THREEWAYS_ARRAY(s->births), THREEWAYS_ARRAY(s->tree3));
 }
 
 /* Writes the parent of a switch in tree 1, 2 or 3 of a closed session. Refusals 19, 21, then 17. */

@@ -184,6 +184,41 @@ static void closed_session(void)
     hold(is(threeways_clear(&other), 0, 0) && same(&other, &zeros), "clear leaves zeros of a closed session");
 }
 
+/* Five switches, each two joined: 1 and 2 have the neighbours 3 and 4 born later, and 4 is last. By the lowest number, the rule before, the
+ * walks of 1 and 2 in tree 3 go over 3. */
+static void bring_over(void)
+{
+    static const uint16_t all[] = { 0, 1, 0, 2, 0, 3, 0, 4, 1, 2, 1, 3, 1, 4, 2, 3, 2, 4, 3, 4 };
+    static const uint16_t all_list[] = { 3, 0, 2, 1, 3, 2, 3, 1, 3, 2, 4, 3, 0 };
+    static struct threeways_session closed, before;
+    struct threeways_session *s = &session;
+    *s = zeros;
+    hold(is(threeways_bring_over(s), 19, 0) && same(s, &zeros), "bringing over an empty session is 19 at 0");
+    hold(is(threeways_load(s, 5, all, 20, 0, 1, 4), 0, 0) && is(offer(s, all_list, 13), 0, 0), "a list of five switches is accepted");
+    before = *s;
+    hold(is(threeways_bring_over(s), 21, 0) && same(s, &before), "bringing over an open session is 21 at 0");
+    hold(is(threeways_close(s), 0, 0), "close succeeds");
+    hold(s->tree3[0] == 0 && s->tree3[1] == 4 && s->tree3[2] == 4 && s->tree3[3] == 4 && s->tree3[4] == 0, "tree 3 has the shortest walks");
+    closed = *s;
+    hold(is(threeways_bring_over(s), 0, 0) && same(s, &closed), "bringing over a session that close left changes nothing");
+    s->tree3[1] = s->tree3[2] = 3;
+    before = *s;
+    hold(is(threeways_walk(s, 2, 3, out, 4, &count), 0, 0) && count == 4 && out[1] == 3, "by the lowest number the walk of 2 has 4 switches");
+    hold(is(threeways_bring_over_in(s->stage, s->n, s->m, s->root, s->first, s->last, s->longs, s->born, s->links, 8191,
+        THREEWAYS_ARRAY(s->births), THREEWAYS_ARRAY(s->tree3)), THREEWAYS_LENGTHS, 0) && same(s, &before), "links of another length are 255 at 0");
+    hold(is(threeways_bring_over_in(s->stage, s->n, s->m, s->root, s->first, s->last, s->longs, s->born, THREEWAYS_ARRAY(s->links),
+        s->births, 1023, THREEWAYS_ARRAY(s->tree3)), THREEWAYS_LENGTHS, 0) && same(s, &before), "births of another length are 255 at 0");
+    hold(is(threeways_bring_over_in(s->stage, s->n, s->m, s->root, s->first, s->last, s->longs, s->born, THREEWAYS_ARRAY(s->links),
+        THREEWAYS_ARRAY(s->births), s->tree3, 1023), THREEWAYS_LENGTHS, 0) && same(s, &before), "a tree 3 of another length is 255 at 0");
+    hold(is(threeways_bring_over(s), 0, 0) && same(s, &closed), "bringing it over succeeds, and all is as close left it");
+    hold(is(threeways_bring_over(s), 0, 0) && same(s, &closed), "bringing it over again changes nothing");
+    out[0] = out[1] = out[2] = out[3] = 9;
+    hold(is(threeways_walk(s, 2, 3, out, 4, &count), 0, 0) && count == 3, "the walk of 2 then has 3 switches");
+    hold(out[0] == 2 && out[1] == 4 && out[2] == 0 && out[3] == 9, "it is 2 4 0, and the rest of the slice is left");
+    hold(is(threeways_bring_over_in(THREEWAYS_EMPTY, s->n, s->m, s->root, s->first, s->last, s->longs, s->born, THREEWAYS_ARRAY(s->links),
+        THREEWAYS_ARRAY(s->births), s->tree3, 1023), THREEWAYS_LENGTHS, 0), "another length is 255 at any stage");
+}
+
 enum { ROOM = 8 };
 
 static uint16_t zones[ROOM];
@@ -262,6 +297,7 @@ int main(void)
     leftover_links();
     crossed_switch();
     closed_session();
+    bring_over();
     zones_refused();
     zones_given();
     return failed;

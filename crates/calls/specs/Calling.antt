@@ -6,6 +6,7 @@ use mathlib.Core.List.{List, _++_}
 use Prim.Native.Nat.{ℕ, _*_}
 use lib.ListN.{take}
 use Rattle.mondschein.specs.Network.{at}
+use Rattle.mondschein.specs.Order.{shortest}
 use Rattle.network.specs.Load.{networkOf}
 use Rattle.in_place.specs.declared.Session.{Session}
 use Rattle.in_place.specs.declared.State.{State}
@@ -59,7 +60,7 @@ Offers r st table used births order tree1 tree2 e c used′ births′ order′ t
 abbrev pub Closes : Reader → State → List ℕ → List ℕ → List ℕ → List ℕ → Called → List ℕ → List ℕ → Type 0
 Closes r st table used births tree3 c tree3′ bytes =
     (order tree1 tree2 : List ℕ) → repliedIn (c .reader) (sessionIn (c .state) table used births order tree1 tree2 tree3′) bytes
-    ≡ (let o = closedBy (sessionIn st table used births order tree1 tree2 tree3) in
+    ≡ (let o = closedBy shortest (sessionIn st table used births order tree1 tree2 tree3) in
     repliedBy r (r .kept) (o .after) (replyTo (λ vs. closed) (o .answer)))
 
 -- an index of the links that are stored stays one

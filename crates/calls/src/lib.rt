@@ -17,7 +17,7 @@ ghost use Rattle.judge.specs.Ear.{earAnswer};
 ghost use Rattle.closing.specs.Closing.{closeAnswer};
 ghost use Rattle.walks.specs.Walks.{walkAnswer};
 ghost use Rattle.in_place.specs.Session.{emptySession};
-ghost use Rattle.in_place.specs.InPlace.{sessionIn, SizedAs, IndexedIn};
+ghost use Rattle.in_place.specs.InPlace.{sessionIn, SizedAs, SizedForThird, IndexedIn};
 ghost use Rattle.replies.specs.Replies.{opened, new, closed, walked, cleared, reply, Printed};
 ghost use Rattle.collect.specs.Dialogue.{replyTo};
 ghost use Rattle.collect.specs.Answering.{freshKept, Keeps};
@@ -186,7 +186,7 @@ pub fn close(
     tree3: &mut [u16],
     out: &mut [u8],
 ) -> Called
-    requires { ⌜ (8192 ≤ length (now out)) × (length (now table) ≡ 8192) ⌝ }
+    requires { ⌜ (8192 ≤ length (now out)) × SizedForThird (now table) (now births) (now tree3) ⌝ }
     ensures { λ c. ⌜ Closes r st (now (table .entry)) (now (used .entry)) (now (births .entry)) (now (tree3 .entry)) c (now (tree3 .exit)) (take (c .written) (now (out .exit))) ⌝ }
     ensures { λ c. ⌜ Keeps (c .written) (now (out .entry)) (now (out .exit)) × (c .state .m ≡ st .m) ⌝ }
 {

@@ -8,6 +8,7 @@ use lib.Dec.{ltb}
 use lib.ListN.{length, take, replicate}
 use Rattle.mondschein.specs.Network.{at}
 use Rattle.mondschein.specs.Judge.{Answer, given, refused, limits}
+use Rattle.mondschein.specs.Order.{shortest}
 use Rattle.network.specs.Load.{networkOf}
 use Rattle.in_place.specs.declared.Session.{Session}
 use Rattle.in_place.specs.Session.{emptySession, loadedBy, offeredBy, closedBy}
@@ -66,7 +67,7 @@ respond d k (some (ear e)) =
     let o = offeredBy (d .session) e in
     answered (withSession d (o .after)) (replyTo (λ vs. new (at vs 0)) (o .answer))
 respond d k (some closing) =
-    let o = closedBy (d .session) in
+    let o = closedBy shortest (d .session) in
     answered (withSession d (o .after)) (replyTo (λ vs. closed) (o .answer))
 respond d k (some (walk switch tree)) =
     let o = walkedBy (d .session) switch tree (replicate (limits .maxSwitches) 0) in

@@ -1,6 +1,7 @@
-// The worked example of document 01, its cards i and l and the cards below them, zones of card k, and lists of ears, through the calls.
-// Each answer is written as the lines of document 01 write it, that of parent as (parent switch tree entry), that of zones as (zones sizes (zone
-// of each switch)), that of a list as (accepted ears).
+// The worked example of document 01, its cards i and l and the cards below them, zones of card k, card k brought over, and lists of ears, through
+// the calls. Each answer is written as the lines of document 01 write it, that of parent as (parent switch tree entry), that of zones as (zones
+// sizes (zone of each switch)), that of a list as (accepted ears), that of bringing over as (brought over).
+use bringing::BroughtOver;
 use closing::Close;
 use judge::Ear;
 use network::Load;
@@ -93,6 +94,19 @@ fn close(s: Session) -> Session {
         Close::Refused(number, place) => write_refusal(number, place),
     }
     closing.session
+}
+
+// Brings the session over, writes the answer, and gives the session after it.
+fn bring_over(s: Session) -> Session {
+    let bringing = session::bring_over(s);
+    let answer = bringing.answer;
+    match answer {
+        BroughtOver::Done => {
+            io::write_all(1, b"(brought over)\n");
+        }
+        BroughtOver::Refused(number, place) => write_refusal(number, place),
+    }
+    bringing.session
 }
 
 // Writes what parent answers.
@@ -202,6 +216,22 @@ fn second_network() {
     zones(s, 65535, 1, 6);
 }
 
+// On the network of card k as it was closed before document 02, Note 6, when switch 3 had 4 in tree 3: its third walk before it is brought over,
+// and after. An empty and an open session are refused.
+fn third_walks() {
+    let links: [u16; 20] = [0, 1, 0, 2, 1, 2, 1, 3, 2, 3, 3, 4, 3, 5, 4, 5, 0, 4, 0, 5];
+    let mut out = [0u16; 6];
+    bring_over(Session::empty());
+    let mut s = load(6, &links, 0, 1, 5);
+    s = bring_over(s);
+    s = offer_list(s, &[3, 0, 2, 1, 3, 2, 3, 1, 3, 3, 4, 0, 3, 3, 5, 4, 0]);
+    s = close(s);
+    s.tree3[3] = 4;
+    walk(s, 3, 3, &mut out);
+    s = bring_over(s);
+    walk(s, 3, 3, &mut out);
+}
+
 // Lists of ears on the first network: one that ends at a refused ear, one that ends at a count past its end, and an empty ear, which takes
 // the link that is left; and no ears, before and after.
 fn whole_lists() {
@@ -220,5 +250,6 @@ fn main() {
     worked_example();
     first_network();
     second_network();
+    third_walks();
     whole_lists();
 }

@@ -7,9 +7,9 @@ use Prim.Native.Nat.{ℕ, min, _*_, _≤_}
 use native.Mathlib.Omega.{arith}
 use lib.Dec.{eqb}
 use lib.ListN.{length, take, length-take}
-use Rattle.mondschein.specs.Network.{Network, size, former, latter, joins, joined, linkOf}
+use Rattle.mondschein.specs.Network.{Network, size, former, latter, joins, linkOf}
 use Rattle.mondschein.specs.Judge.{Answer, given, refused, verdict, closing}
-use Rattle.mondschein.specs.Order.{parent3By}
+use Rattle.mondschein.specs.Order.{shortest}
 use Rattle.mondschein.specs.Outcome.{granted, settle}
 use Rattle.mondschein.specs.EmptyEar.{leftOver, isEmpty, entering}
 use Rattle.mondschein.proofs.Passed.{given-passed}
@@ -18,12 +18,13 @@ use Rattle.network.specs.Index.{Indexed}
 use Rattle.rows.specs.Rows.{marked}
 use Rattle.rows.proofs.Prefixes.{least-take}
 use Rattle.left_over.specs.LeftOver.{usedAfterEmpty}
-use Rattle.closing.specs.Tree3.{tree3Of}
+use Rattle.thirds.specs.Tree3.{tree3Of}
+use Rattle.thirds.proofs.Tree3.{tree3-named}
 use Rattle.tables.specs.Tables.{tablesOf, usedAfter, afterEar}
 use Rattle.in_place.specs.declared.Stage.{Stage}
 use Rattle.in_place.specs.declared.Stage.the-variants.{Empty, Open, Closed}
 use Rattle.in_place.specs.declared.Session.{Session}
-use Rattle.in_place.specs.Session.{networkIn, tablesIn, afterOffer, withTables, byStage}
+use Rattle.in_place.specs.Session.{networkIn, tablesIn, afterOffer, withTables, thirdIn, byStage}
 
 -- by the answer
 module _ (s next : Session) {a : Answer} where
@@ -94,9 +95,10 @@ module _ (s : Session) {r : ℕ} (q : r ≡ min (2 * s .m) (length (s .links))) 
   closing-lent = ap (λ (l : List ℕ). closing (tableOf l) (marked (s .used))) lent
 
   -- tree 3 does not ask for first
-  pub tree3-lent : tree3Of (networkOf (s .n) (take r (s .links)) (s .root) 0 (s .last)) (s .births) (s .tree3) ≡ tree3Of (networkIn s) (s .births) (s .tree3)
-  unfolding tree3Of parent3By joined joins former latter size
-  tree3-lent = ap (λ (l : List ℕ). tree3Of (networkOf (s .n) l (s .root) 0 (s .last)) (s .births) (s .tree3)) lent
+  pub tree3-lent : tree3Of shortest (networkOf (s .n) (take r (s .links)) (s .root) 0 (s .last)) (s .births) (s .tree3) ≡ thirdIn shortest s
+  tree3-lent =
+      ap (λ (l : List ℕ). tree3Of shortest (networkOf (s .n) l (s .root) 0 (s .last)) (s .births) (s .tree3)) lent
+      ∙ tree3-named (s .n) (take (2 * s .m) (s .links)) (s .root) 0 (s .first) (s .last) (s .births) (s .tree3)
 
 -- an empty ear is given 0, and any other is judged
 module _ (s : Session) (e : List ℕ) where

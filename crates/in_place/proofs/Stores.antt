@@ -5,6 +5,7 @@ use mathlib.Core.List.{List}
 use Prim.Native.Nat.{ℕ, _*_}
 use lib.ListN.{take}
 use Rattle.mondschein.specs.Judge.{Answer, given, refused}
+use Rattle.mondschein.specs.Order.{Rule}
 use Rattle.mondschein.specs.Outcome.{granted, settle}
 use Rattle.network.specs.Load.{tableOf}
 use Rattle.network.specs.Index.{Indexed}
@@ -22,9 +23,9 @@ pub offered-m : (s : Session) (e : List ℕ) → offeredBy s e .after .m ≡ s .
 unfolding offeredBy
 offered-m s e = m-left s _ refl _
 
-pub closed-m : (s : Session) → closedBy s .after .m ≡ s .m
+pub closed-m : (rule : Rule) (s : Session) → closedBy rule s .after .m ≡ s .m
 unfolding closedBy
-closed-m s = m-left s _ refl _
+closed-m rule s = m-left s _ refl _
 
 pub index-kept : (st st′ : State) (links index : List ℕ) → st′ .m ≡ st .m → IndexedIn st links index → IndexedIn st′ links index
 index-kept st st′ links index q i = subst (λ (m : ℕ). Indexed (tableOf (take (2 * m) links)) index) (sym q) i

@@ -7,6 +7,7 @@ use lib.Dec.{eqb}
 use lib.ListN.{length, take}
 use Rattle.mondschein.specs.Network.{Network}
 use Rattle.mondschein.specs.Judge.{Answer, refused, verdict, closing}
+use Rattle.mondschein.specs.Order.{shortest}
 use Rattle.mondschein.specs.Outcome.{settle}
 use Rattle.mondschein.specs.EmptyEar.{entering}
 use Rattle.network.specs.Load.{tableOf, loadAnswer}
@@ -14,7 +15,6 @@ use Rattle.network.specs.Index.{Indexed}
 use Rattle.rows.specs.Rows.{marked}
 use Rattle.judge.specs.Ear.{earAnswer}
 use Rattle.closing.specs.Closing.{closeAnswer}
-use Rattle.closing.specs.Tree3.{tree3Of}
 use Rattle.tables.specs.Tables.{tablesOf, afterEar}
 use Rattle.walks.specs.declared.Parent.{Parent}
 use Rattle.walks.specs.declared.Walk.{Walk}
@@ -25,7 +25,7 @@ use Rattle.in_place.specs.declared.State.{State}
 use Rattle.in_place.specs.declared.LoadedIn.{LoadedIn}
 use Rattle.in_place.specs.declared.OfferedIn.{OfferedIn}
 use Rattle.in_place.specs.declared.ClosedIn.{ClosedIn}
-use Rattle.in_place.specs.Session.{sessionOf, networkIn, tablesIn, afterOffer, withTables, closedWith, loadedBy, offeredBy, closedBy}
+use Rattle.in_place.specs.Session.{sessionOf, networkIn, tablesIn, afterOffer, withTables, closedWith, thirdIn, loadedBy, offeredBy, closedBy}
 use Rattle.in_place.specs.Queries.{parentBy, walkedBy}
 
 -- the session with this state and these arrays
@@ -55,6 +55,12 @@ pub record SizedAs (l u b o p q t : List ℕ) : Type 0 where
   pub order : length o ≡ 1024
   pub tree1 : length p ≡ 1024
   pub tree2 : length q ≡ 1024
+  pub tree3 : length t ≡ 1024
+
+-- the arrays that tree 3 is set from and in have those lengths
+pub record SizedForThird (l b t : List ℕ) : Type 0 where
+  pub links : length l ≡ 8192
+  pub births : length b ≡ 1024
   pub tree3 : length t ≡ 1024
 
 -- numbers that are whole links, and no more than the table has room for
@@ -100,13 +106,13 @@ abbrev pub ClosesOpen : State → List ℕ → List ℕ → List ℕ → List �
 ClosesOpen st links used births tree3 r tree3′ =
     (order tree1 tree2 : List ℕ) → record { answer = closeAnswer (r .answer); after = sessionIn (r .state) links used births order tree1 tree2 tree3′ }
     ≡ (let s = sessionIn st links used births order tree1 tree2 tree3 in
-    settle s (closedWith s (tree3Of (networkIn s) births tree3)) (closing (networkIn s) (marked used)))
+    settle s (closedWith s (thirdIn shortest s)) (closing (networkIn s) (marked used)))
 
 -- close, whatever the order and trees 1 and 2 hold
 abbrev pub ClosesIn : State → List ℕ → List ℕ → List ℕ → List ℕ → ClosedIn → List ℕ → Type 0
 ClosesIn st links used births tree3 r tree3′ =
     (order tree1 tree2 : List ℕ) → record { answer = closeAnswer (r .answer); after = sessionIn (r .state) links used births order tree1 tree2 tree3′ }
-    ≡ closedBy (sessionIn st links used births order tree1 tree2 tree3)
+    ≡ closedBy shortest (sessionIn st links used births order tree1 tree2 tree3)
 
 -- parent and walk, whatever the other arrays hold
 abbrev pub ParentIn : State → List ℕ → List ℕ → List ℕ → ℕ → ℕ → Parent → Type 0

@@ -7,13 +7,14 @@ use lib.Dec.{eqb}
 use lib.ListN.{length, replicate, take}
 use Rattle.mondschein.specs.Network.{Network, size}
 use Rattle.mondschein.specs.Judge.{given, refused, loading, closing}
+use Rattle.mondschein.specs.Order.{Rule, shortest}
 use Rattle.mondschein.specs.Outcome.{Outcome, settle}
 use Rattle.mondschein.specs.WholeList.{offering, earsIn}
 use Rattle.mondschein.specs.EmptyEar.{isEmpty, entering}
 use Rattle.network.specs.Load.{networkOf}
 use Rattle.rows.specs.Rows.{marked}
 use Rattle.left_over.specs.LeftOver.{usedAfterEmpty}
-use Rattle.closing.specs.Tree3.{tree3Of}
+use Rattle.thirds.specs.Tree3.{tree3Of}
 use Rattle.tables.specs.Tables.{Tables, tablesOf, afterEar}
 use Rattle.in_place.specs.declared.Stage.{Stage}
 use Rattle.in_place.specs.declared.Stage.the-variants.{Empty, Open, Closed}
@@ -99,9 +100,16 @@ afterOffer net e t =
 abbrev pub withTables : Session → Tables → Session
 withTables s t = sessionOf (s .stage) (storedIn s) t (s .tree3)
 
--- the session closed, with tree 3
+-- the session with another row for tree 3, and the same closed
+abbrev pub withThird : Session → List ℕ → Session
+withThird s tree3 = sessionOf (s .stage) (storedIn s) (tablesIn s) tree3
+
 abbrev pub closedWith : Session → List ℕ → Session
 closedWith s tree3 = sessionOf Closed (storedIn s) (tablesIn s) tree3
+
+-- tree 3 by a rule, from the network and the births that a session keeps
+abbrev pub thirdIn : Rule → Session → List ℕ
+thirdIn rule s = tree3Of rule (networkIn s) (s .births) (s .tree3)
 
 -- an answer for each stage
 unfoldable pub byStage : {A : Type 0} → Stage → A → A → A → A
@@ -124,11 +132,16 @@ offeredBy s e =
 unfoldable pub listedBy : Session → List ℕ → Outcome Session
 listedBy s l = offering offeredBy s (earsIn l)
 
--- close: 19 on an empty session, 22 on a closed one, then 23
-unfoldable pub closedBy : Session → Outcome Session
-closedBy s =
-    settle s (closedWith s (tree3Of (networkIn s) (s .births) (s .tree3)))
+-- close: 19 on an empty session, 22 on a closed one, then 23. Today's is by the rule `shortest`; that of the earlier delivery, by the rule
+-- `lowest`, stays as a definition, so that the sessions that it left are spoken of
+unfoldable pub closedBy : Rule → Session → Outcome Session
+closedBy rule s =
+    settle s (closedWith s (thirdIn rule s))
     (byStage (s .stage) (refused 19 0) (closing (networkIn s) (marked (s .used))) (refused 22 0))
+
+-- bringing over (document 02, Note 6): 19 on an empty session, 21 on an open one; on a closed one tree 3 alone is set
+unfoldable pub broughtBy : Session → Outcome Session
+broughtBy s = settle s (withThird s (thirdIn shortest s)) (byStage (s .stage) (refused 19 0) (refused 21 0) (given []))
 
 -- clear
 unfoldable pub clearedBy : Session → Outcome Session

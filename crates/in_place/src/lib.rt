@@ -14,7 +14,7 @@ ghost use Rattle.mondschein.specs.EmptyEar.{isEmpty};
 ghost use Rattle.shape.specs.declared.Ear.the-variants as Ear·;
 ghost use Rattle.closing.specs.declared.Close.the-variants as Close·;
 ghost use Rattle.in_place.specs.Session.{emptySession};
-ghost use Rattle.in_place.specs.InPlace.{emptyState, closedState, IndexedIn, JudgesOpen, OffersOpen, OffersIn, ClosesOpen, ClosesIn, ParentIn, WalksIn};
+ghost use Rattle.in_place.specs.InPlace.{emptyState, closedState, SizedForThird, IndexedIn, JudgesOpen, OffersOpen, OffersIn, ClosesOpen, ClosesIn, ParentIn, WalksIn};
 
 pub enum Stage {
     Empty,
@@ -298,7 +298,7 @@ fn closed(st: State) -> ClosedIn
 
 // Check 23, and tree 3 where it is clear.
 fn close_open(st: State, links: &[u16], used: &[u8], births: &[u16], tree3: &mut [u16]) -> ClosedIn
-    requires { ⌜ length (now links) ≡ 8192 ⌝ }
+    requires { ⌜ SizedForThird (now links) (now births) (now tree3) ⌝ }
     ensures { λ r. ⌜ ClosesOpen st (now (links .entry)) (now (used .entry)) (now (births .entry)) (now (tree3 .entry)) r (now (tree3 .exit)) ⌝ }
 {
     let numbers = rows::least(2 * (st.m as usize), links.len());
@@ -307,7 +307,7 @@ fn close_open(st: State, links: &[u16], used: &[u8], births: &[u16], tree3: &mut
     match answer {
         Close::Refused(number, place) => close_refused(number, place, st),
         Close::Closed => {
-            closing::set_tree3(tree3, st.n, table, st.root, st.last, births);
+            thirds::set_tree3(tree3, st.n, table, st.root, st.last, births);
             closed(st)
         }
     }
@@ -315,7 +315,7 @@ fn close_open(st: State, links: &[u16], used: &[u8], births: &[u16], tree3: &mut
 
 // Closes an open session: 19 on an empty one, 22 on a closed one, then check 23.
 pub fn close(st: State, links: &[u16], used: &[u8], births: &[u16], tree3: &mut [u16]) -> ClosedIn
-    requires { ⌜ length (now links) ≡ 8192 ⌝ }
+    requires { ⌜ SizedForThird (now links) (now births) (now tree3) ⌝ }
     ensures { λ r. ⌜ ClosesIn st (now (links .entry)) (now (used .entry)) (now (births .entry)) (now (tree3 .entry)) r (now (tree3 .exit)) ⌝ }
 {
     let stage = st.stage;

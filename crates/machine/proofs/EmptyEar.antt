@@ -72,7 +72,7 @@ empty-ear =
       equals = λ cs p h some ds.
           let q = equal cs p h some ds in
           (sym (state-is-history _) ∙ q ∙ state-is-history _, subst (Alike machine (session machine (cs ++ (ear [] ∷ ds)))) q (alike-itself _));
-      closes = λ cs p h some born.
-          ap (answers close) (after-empty cs p h some [])
+      closes = λ cs p h some born rule.
+          ap (answers (close rule)) (after-empty cs p h some [])
           ∙ takes-left-over (p .net) (kept cs p h some .0) (p .ears) some (kept cs p h some .1) .closes born;
     }

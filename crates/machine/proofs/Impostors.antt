@@ -1,6 +1,6 @@
--- Document 01's impostors, and one each of Notes 1 to 3, as programs that are the machine but for one thing, with the demand that each does
--- not meet. So none of the demands 1, 2 and 3 holds of every program, nor do OneByOne, EmptyEar and OrderOfChecks.
-use mathlib.Core.Path.{_≡_, refl, ap}
+-- Document 01's impostors, and one or two each of Notes 1 to 3 and 6, as programs that are the machine but for one thing, with the demand that each does
+-- not meet. So none of the demands 1, 2 and 3 holds of every program, nor do OneByOne, EmptyEar, OrderOfChecks, BringingOver and NoShorterWalk.
+use mathlib.Core.Path.{_≡_, refl, ap, subst}
 use mathlib.Core.Logic.{inr, ⊎-elim}
 use mathlib.Core.Bool.{true, _&&_, cond}
 use mathlib.Core.List.{List, [], _∷_, _++_, foldl, map}
@@ -10,21 +10,22 @@ use lib.Dec.{ltb}
 use lib.ListN.{length}
 use Rattle.mondschein.specs.Network.{low, any, count, Network, at, holds, size, former, latter, joins, joined, passes, linkOf, Ears, born, birth, trail, used, isNew, newCount, newSwitches}
 use Rattle.mondschein.specs.Judge.{Answer, given, refused, check, wrongSize, linkTooLarge, selfLink, repeatedLink, wrongNames, missingLink, loadChecks, loadingBy, wrongLength, tooLarge, repeated, notJoined, usedAlready, wrongCycle, unbornEnd, bornBetween, otherNew, otherUnborn, rootEnd, lastMisplaced, noneUnborn, checked, numbered, earChecks, verdictBy, judge, closing}
-use Rattle.mondschein.specs.Order.{position, fromA, between, extend, order, course, parent1, parent2, parent3By, parentOf}
+use Rattle.mondschein.specs.Order.{position, fromA, between, extend, order, course, parent1, parent2, Rule, lowest, shortest, reaches, distance, taken, parent3Of, parentOf}
 use Rattle.mondschein.specs.Outcome.{granted, Outcome, settle, unknown}
 use Rattle.mondschein.specs.WholeList.{offeringFrom, earsFrom, earsIn, flat}
 use Rattle.mondschein.specs.EmptyEar.{leftOver, shortEars, isEmpty, entering, answerTo, writtenOut}
 use Rattle.mondschein.specs.CheckOrder.{oldAnswerTo}
 use Rattle.mondschein.specs.Mondschein.{Mondschein}
+use Rattle.mondschein.specs.Routes.{Walk, arrived, onward}
 use Rattle.mondschein.proofs.Checks.{never}
 use Rattle.mondschein.proofs.Excluded.{link-in-three-trees}
-use Rattle.machine.specs.Machine.{plan, closedPlan, State, empty, opened, closed, byState, Call, load, ear, ears, close, clear, longer, offer, answers, told, tells, parentCall, walkCall, orderOf, sizeOf, Program, historyFrom, history}
-use Rattle.machine.specs.Demands.{Demand1, OneByOne, Demand2, EmptyEar, OrderOfChecks, Demand3}
-use Rattle.machine.proofs.Demand2.{plain}
+use Rattle.machine.specs.Machine.{plan, closedPlan, State, empty, opened, closed, byState, Call, load, ear, ears, close, bringOver, clear, longer, offer, answers, told, tells, parentCall, walkCall, orderOf, sizeOf, Program, historyFrom, history}
+use Rattle.machine.specs.Demands.{Demand1, OneByOne, Demand2, EmptyEar, OrderOfChecks, Demand3, BringingOver, NoShorterWalk}
+use Rattle.machine.proofs.Demand2.{demand2, plain}
 
 -- to unfold this is to unfold the judge, the tables and the machine
 computed : Unit {0}
-unfolding low any count holds size former latter joins joined passes linkOf born birth trail used isNew newCount newSwitches check wrongSize linkTooLarge selfLink repeatedLink wrongNames missingLink loadChecks loadingBy wrongLength tooLarge repeated notJoined usedAlready wrongCycle unbornEnd bornBetween otherNew otherUnborn rootEnd lastMisplaced noneUnborn checked numbered earChecks verdictBy judge closing position fromA between extend order course parent1 parent2 parent3By parentOf granted settle unknown offeringFrom earsFrom flat leftOver shortEars isEmpty entering answerTo writtenOut longer offer answers told tells parentCall historyFrom
+unfolding low any count holds size former latter joins joined passes linkOf born birth trail used isNew newCount newSwitches check wrongSize linkTooLarge selfLink repeatedLink wrongNames missingLink loadChecks loadingBy wrongLength tooLarge repeated notJoined usedAlready wrongCycle unbornEnd bornBetween otherNew otherUnborn rootEnd lastMisplaced noneUnborn checked numbered earChecks verdictBy judge closing position fromA between extend order course parent1 parent2 reaches distance taken parent3Of parentOf granted settle unknown offeringFrom earsFrom flat leftOver shortEars isEmpty entering answerTo writtenOut longer offer answers told tells parentCall historyFrom
 computed = tt
 
 -- document 01's first network, and the list that closes there
@@ -38,7 +39,7 @@ abbrev later : Ears
 later = (2 ∷ 3 ∷ 1 ∷ []) ∷ (0 ∷ 3 ∷ []) ∷ []
 
 abbrev calls : Ears → List Call
-calls es = load net ∷ (map ear es ++ (close ∷ []))
+calls es = load net ∷ (map ear es ++ (close shortest ∷ []))
 
 -- the first value of an answer
 abbrev value : Answer → ℕ
@@ -47,7 +48,7 @@ value (refused num place) = 0
 
 sequence : Mondschein net (cycle ∷ later)
 unfolding computed
-sequence = plain net (cycle ∷ later) .0 refl .1
+sequence = plain shortest net (cycle ∷ later) .0 refl .1
 
 -- the machine with its answers changed
 abbrev answering : (State → Answer → Answer) → Program
@@ -85,7 +86,7 @@ reading f g =
     }
 
 -- it closes the list as the machine does
-closed-after : (f : State → ℕ → ℕ → Answer) (g : State → ℕ → ℕ → List ℕ → Outcome (List ℕ)) → history (reading f g) (calls (cycle ∷ later)) ≡ closed (closedPlan net (cycle ∷ later))
+closed-after : (f : State → ℕ → ℕ → Answer) (g : State → ℕ → ℕ → List ℕ → Outcome (List ℕ)) → history (reading f g) (calls (cycle ∷ later)) ≡ closed (closedPlan shortest net (cycle ∷ later))
 unfolding computed
 closed-after f g = refl
 
@@ -105,8 +106,8 @@ waved = cycle ∷ (2 ∷ 3 ∷ 0 ∷ []) ∷ (1 ∷ 3 ∷ []) ∷ []
 pub waves-the-rest-through : Demand2 (answering waving) → ⊥
 unfolding computed
 waves-the-rest-through d =
-    let (proper, M, _) = d .sound (calls waved) (closedPlan net waved) refl in
-    let z : _≡_ {A = ℕ} 1 2 = ap (byState 0 (λ p. 1) (λ p. 2)) (plain net waved .1 (proper, M)) in
+    let (proper, M, _) = d .sound (calls waved) (closedPlan shortest net waved) refl in
+    let z : _≡_ {A = ℕ} 1 2 = ap (byState 0 (λ p. 1) (λ p. 2)) (plain shortest net waved .1 (proper, M)) in
     absurd (omega arith)
 
 -- one that hands out the same table for every tree
@@ -116,7 +117,7 @@ oneTable s v t = parentCall s v 1
 pub same-table : Demand3 (reading oneTable walkCall) → ⊥
 unfolding computed
 same-table d =
-    let (q, w, e, x, r) = d (calls (cycle ∷ later)) (closedPlan net (cycle ∷ later)) (closed-after oneTable walkCall) in
+    let (q, w, e, x, r) = d (calls (cycle ∷ later)) (closedPlan shortest net (cycle ∷ later)) (closed-after oneTable walkCall) in
     link-in-three-trees net q w r 1 (omega arith) (λ t. 2)
     (λ t m. let z : 0 ≡ q t 2 = ap value (e t 2 m (omega arith)) in (omega arith, (λ (k : 2 ≡ 0). omega arith), inr (z, refl)))
 
@@ -139,7 +140,7 @@ forgets d =
     ⊎-elim
     (λ (vs, q). never q)
     (λ (num, place, q, r, e). let z : _≡_ {A = ℕ} 0 1 = ap (byState 0 (λ p. 1) (λ p. 2)) e in absurd (omega arith))
-    (d .calls (opened (plan net [])) close)
+    (d .calls (opened (plan net [])) (close shortest))
 
 -- ones that say 18 for a slice that is long enough, or 21 or 23 with nothing missing
 abbrev noRoom : State → ℕ → ℕ → List ℕ → Outcome (List ℕ)
@@ -147,7 +148,7 @@ noRoom s v t out = record { answer = refused 18 0; after = out }
 
 pub says-18 : Demand3 (reading parentCall noRoom) → ⊥
 says-18 d =
-    let (q, w, e, x, r) = d (calls (cycle ∷ later)) (closedPlan net (cycle ∷ later)) (closed-after parentCall noRoom) in
+    let (q, w, e, x, r) = d (calls (cycle ∷ later)) (closedPlan shortest net (cycle ∷ later)) (closed-after parentCall noRoom) in
     never (ap (λ (o : Outcome (List ℕ)). o .answer) (x .longEnough 1 0 (omega arith) (omega arith) (w 1 0) (omega arith)))
 
 abbrev noEntry : State → ℕ → ℕ → Answer
@@ -155,19 +156,20 @@ noEntry s v t = refused 21 0
 
 pub says-21 : Demand3 (reading noEntry walkCall) → ⊥
 says-21 d =
-    let (q, w, e, x, r) = d (calls (cycle ∷ later)) (closedPlan net (cycle ∷ later)) (closed-after noEntry walkCall) in
+    let (q, w, e, x, r) = d (calls (cycle ∷ later)) (closedPlan shortest net (cycle ∷ later)) (closed-after noEntry walkCall) in
     never (e 1 0 (omega arith) (omega arith))
 
 pub says-23 : Demand2 (answering (λ s. replaced (refused 23 0) (λ k. given (k ∷ [])))) → ⊥
 unfolding computed
-says-23 d = never (d .judges (load net ∷ map ear (cycle ∷ later)) (plan net (cycle ∷ later)) refl .closes sequence)
+says-23 d = never (d .judges (load net ∷ map ear (cycle ∷ later)) (plan net (cycle ∷ later)) refl .closes sequence shortest)
 
 -- one that takes a list of ears and goes on after a refused one
 abbrev goingOn : State → Call → State
 goingOn s (load net) = tells (load net) (answers (load net) s) s
 goingOn s (ear e) = tells (ear e) (answers (ear e) s) s
 goingOn s (ears l) = foldl (λ s e. offer s e .after) s (earsIn l)
-goingOn s close = tells close (answers close s) s
+goingOn s (close rule) = tells (close rule) (answers (close rule) s) s
+goingOn s bringOver = tells bringOver (answers bringOver s) s
 goingOn s clear = tells clear (answers clear s) s
 
 pub goes-on : OneByOne (record { Session = State; fresh = empty; after = goingOn; answer = λ s c. answers c s; parent = parentCall; walk = walkCall; order = orderOf; size = sizeOf }) → ⊥
@@ -182,12 +184,13 @@ takingNothing s (load net) = tells (load net) (answers (load net) s) s
 takingNothing s (ear []) = s
 takingNothing s (ear (x ∷ e)) = tells (ear (x ∷ e)) (answers (ear (x ∷ e)) s) s
 takingNothing s (ears l) = tells (ears l) (answers (ears l) s) s
-takingNothing s close = tells close (answers close s) s
+takingNothing s (close rule) = tells (close rule) (answers (close rule) s) s
+takingNothing s bringOver = tells bringOver (answers bringOver s) s
 takingNothing s clear = tells clear (answers clear s) s
 
 pub takes-nothing : EmptyEar (record { Session = State; fresh = empty; after = takingNothing; answer = λ s c. answers c s; parent = parentCall; walk = walkCall; order = orderOf; size = sizeOf }) → ⊥
 unfolding computed
-takes-nothing d = never (d .closes (load net ∷ map ear long) (plan net long) refl (omega arith) all-born)
+takes-nothing d = never (d .closes (load net ∷ map ear long) (plan net long) refl (omega arith) all-born shortest)
   where
     long : Ears
     long = cycle ∷ (2 ∷ 3 ∷ 1 ∷ []) ∷ []
@@ -204,7 +207,8 @@ abbrev oldAnswer : State → Call → Answer
 oldAnswer s (load net) = answers (load net) s
 oldAnswer s (ear e) = byState (refused 19 0) (λ p. oldAnswerTo (p .net) (p .ears) e) (λ p. refused 22 0) s
 oldAnswer s (ears l) = answers (ears l) s
-oldAnswer s close = answers close s
+oldAnswer s (close rule) = answers (close rule) s
+oldAnswer s bringOver = answers bringOver s
 oldAnswer s clear = answers clear s
 
 pub tells-the-link : OrderOfChecks (record { Session = State; fresh = empty; after = λ s c. tells c (oldAnswer s c) s; answer = oldAnswer; parent = parentCall; walk = walkCall; order = orderOf; size = sizeOf }) → ⊥
@@ -212,4 +216,40 @@ unfolding computed oldAnswerTo
 tells-the-link d =
     let (_, q) = d (load net ∷ ear cycle ∷ []) (plan net (cycle ∷ [])) refl (3 ∷ 0 ∷ 2 ∷ []) .from11 ((omega arith, refl), omega arith, (1, omega arith, refl)) in
     let z : _≡_ {A = ℕ} 11 14 = cc in
+    absurd (omega arith)
+
+-- one that brings over a session closed under the earlier rule alone, and refuses any other
+abbrev byRule : {A : Type 0} → A → A → Rule → A
+byRule a b lowest = a
+byRule a b shortest = b
+
+abbrev choosing : State → Call → Answer
+choosing s (load net) = answers (load net) s
+choosing s (ear e) = answers (ear e) s
+choosing s (ears l) = answers (ears l) s
+choosing s (close rule) = answers (close rule) s
+choosing s bringOver = byState (refused 19 0) (λ p. refused 21 0) (λ p. byRule (given []) (refused 22 0) (p .rule)) s
+choosing s clear = answers clear s
+
+pub brings-over-once : BringingOver (record { Session = State; fresh = empty; after = λ s c. tells c (choosing s c) s; answer = choosing; parent = parentCall; walk = walkCall; order = orderOf; size = sizeOf }) → ⊥
+unfolding computed
+brings-over-once d = never (d .grants (calls (cycle ∷ later)) (closedPlan shortest net (cycle ∷ later)) refl)
+
+-- one whose third walks make a detour of one switch
+abbrev detour : State → ℕ → ℕ → List ℕ → Outcome (List ℕ)
+detour s v t out = record { answer = given (4 ∷ []); after = out }
+
+pub wanders : NoShorterWalk (reading parentCall detour) → ⊥
+unfolding computed
+wanders d =
+    let (_, _, (_, _, (q, e, r))) = demand2 .sound (calls (cycle ∷ later)) (closedPlan shortest net (cycle ∷ later)) refl in
+    let from1 : 3 ≡ q 3 1 = ap value (e 3 1 (omega arith) (omega arith)) in
+    let from3 : 0 ≡ q 3 3 = ap value (e 3 3 (omega arith) (omega arith)) in
+    let w : List ℕ = 1 ∷ 3 ∷ 0 ∷ [] in
+    let walked : Walk 0 (q 3) 1 w =
+    onward (λ (z : _≡_ {A = ℕ} 1 0). omega arith) (subst (λ x. Walk 0 (q 3) x (3 ∷ 0 ∷ [])) from1
+    (onward (λ (z : _≡_ {A = ℕ} 3 0). omega arith) (subst (λ x. Walk 0 (q 3) x (0 ∷ [])) from3 arrived))) in
+    let (c, a, m) = d (calls (cycle ∷ later)) (closedPlan shortest net (cycle ∷ later)) (closed-after parentCall detour) refl
+    (q 3) (r .tree3 .third) 1 (omega arith) w walked w (omega arith) in
+    let z : 4 ≡ c = ap value a in
     absurd (omega arith)

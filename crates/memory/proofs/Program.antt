@@ -16,7 +16,7 @@ use Rattle.mondschein.proofs.Lists.{in-holds}
 use Rattle.mondschein.proofs.Checks.{never}
 use Rattle.mondschein.proofs.Outcomes.{settle-refused, settle-given}
 use Rattle.mondschein.proofs.WholeList.{given-values, offering-given, offering-alike}
-use Rattle.machine.specs.Machine.{Call, load, ear, ears, close, clear, session}
+use Rattle.machine.specs.Machine.{Call, load, ear, ears, close, bringOver, clear, session}
 use Rattle.machine.specs.Demands.{Refusal, offerBy, Demand1, OneByOne, Promises}
 use Rattle.machine.proofs.OneByOne.{Leaves, lists-of}
 use Rattle.machine.proofs.Implementation.{Implements, history-of, promises-of}
@@ -79,7 +79,8 @@ one-call (ears l) s =
     (λ mem s e q.
     let (x, y) = single s (ear e) in
     (ap (λ (mem : Memory). calledIn mem (ear e) .after) q ∙ x, ap (λ (mem : Memory). calledIn mem (ear e) .answer) q ∙ y)) 0 (memoryOf s) s (earsIn l) refl
-one-call close s = single s close
+one-call (close rule) s = single s (close rule)
+one-call bringOver s = single s bringOver
 one-call clear s = single s clear
 
 calls-from : (cs : List Call) (s : Session) → foldl (memoryProgram .after) (memoryOf s) cs ≡ memoryOf (foldl (sessionProgram .after) s cs)
@@ -111,7 +112,8 @@ unfolding calledIn
 leaves mem (load net) = single-leaves mem (load net)
 leaves mem (ear e) = single-leaves mem (ear e)
 leaves mem (ears l) = inl (offering-given (offerBy memoryProgram) 0 mem (earsIn l))
-leaves mem close = single-leaves mem close
+leaves mem (close rule) = single-leaves mem (close rule)
+leaves mem bringOver = single-leaves mem bringOver
 leaves mem clear = single-leaves mem clear
 
 demand1 : Demand1 memoryProgram
@@ -144,7 +146,8 @@ no-zero m place (ear e) =
     ⊎-elim (λ (i, l). not-zero (7 ∷ 12 ∷ 19 ∷ 22 ∷ []) i refl)
     (⊎-elim (λ (i, l). not-zero (10 ∷ 11 ∷ []) i refl) (λ (i, l). not-zero (8 ∷ 9 ∷ 13 ∷ 14 ∷ 15 ∷ 16 ∷ []) i refl))
 no-zero m place (ears l) = λ x. x
-no-zero m place close = ⊎-elim (λ (i, l). not-zero (19 ∷ 22 ∷ []) i refl) (λ (i, l). not-zero (23 ∷ []) i refl)
+no-zero m place (close rule) = ⊎-elim (λ (i, l). not-zero (19 ∷ 22 ∷ []) i refl) (λ (i, l). not-zero (23 ∷ []) i refl)
+no-zero m place bringOver = λ (i, l). not-zero (19 ∷ 21 ∷ []) i refl
 no-zero m place clear = λ x. x
 
 same-number : (num place place′ : ℕ) {a : Answer} → a ≡ refused num place → a ≡ refused 0 place′ → num ≡ 0

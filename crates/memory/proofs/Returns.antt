@@ -1,8 +1,9 @@
 -- What a function for C gives back and leaves, by what the call in place answered: refused for its arrays, refused by the call, or granted.
 -- The session that the call left, and the numbers that were written, make the memory after it.
 use mathlib.Core.Path.{_≡_, refl, sym, ap, _∙_, subst}
+use mathlib.Core.Logic.{_≢_}
 use mathlib.Core.Bool.{Bool, true, false, not, cond}
-use mathlib.Core.List.{List}
+use mathlib.Core.List.{List, []}
 use Prim.Native.Nat.{ℕ}
 use native.Mathlib.Omega.{arith}
 use lib.Dec.{eqb}
@@ -10,6 +11,7 @@ use lib.ListN.{length}
 use borrow.Author.Tests.{eqb-true, not-false}
 use Rattle.mondschein.specs.Network.{Network}
 use Rattle.mondschein.specs.Judge.{Answer, given, refused}
+use Rattle.mondschein.specs.Order.{Rule, shortest}
 use Rattle.mondschein.specs.Outcome.{Outcome, settle}
 use Rattle.mondschein.proofs.Logic.{or-false}
 use Rattle.mondschein.specs.WholeList.{earsIn}
@@ -17,11 +19,10 @@ use Rattle.mondschein.proofs.Checks.{never}
 use Rattle.mondschein.proofs.Outcomes.{settle-refused, settle-given}
 use Rattle.mondschein.proofs.WholeList.{offering-alike}
 use Rattle.machine.specs.Machine.{ear, ears}
-use Rattle.closing.specs.Tree3.{tree3Of}
 use Rattle.in_place.specs.declared.Stage.{Stage}
 use Rattle.in_place.specs.declared.Stage.the-variants.{Empty, Open, Closed}
 use Rattle.in_place.specs.declared.Session.{Session}
-use Rattle.in_place.specs.Session.{networkIn, tablesIn, afterOffer, withTables, closedWith, byStage, loadedBy, offeredBy, listedBy, closedBy}
+use Rattle.in_place.specs.Session.{networkIn, tablesIn, afterOffer, withTables, withThird, closedWith, thirdIn, byStage, loadedBy, offeredBy, listedBy, closedBy, broughtBy}
 use Rattle.in_place.specs.InPlace.{SizedAs}
 use Rattle.session.specs.Calls.{called}
 use Rattle.memory.specs.declared.Refusal.{Refusal}
@@ -74,9 +75,13 @@ pub ear-leaves : (s : Session) (e : List ℕ) → Leaves s (offeredBy s e)
 unfolding offeredBy
 ear-leaves s e = settle-leaves s _ _
 
-pub close-leaves : (s : Session) → Leaves s (closedBy s)
+pub close-leaves : (rule : Rule) (s : Session) → Leaves s (closedBy rule s)
 unfolding closedBy
-close-leaves s = settle-leaves s _ _
+close-leaves rule s = settle-leaves s _ _
+
+pub bring-leaves : (s : Session) → Leaves s (broughtBy s)
+unfolding broughtBy
+bring-leaves s = settle-leaves s _ _
 
 -- the memory with these numbers and the arrays of a session
 abbrev pub memoryWith : Numbers → Session → Memory
@@ -105,15 +110,15 @@ module _ (mem : Memory) (o : Outcome Session) (s : Session) (out : ℕ) {r : Ref
       ∙ ap memoryOf (ap (λ (x : Outcome Session). x .after) q)
       ∙ sym (ap (λ (x : Outcome Memory). x .after) (settle-given mem (memoryOf (o .after)) told)))
 
--- a stage that is open has the number 1
-open-number : (k : ℕ) → stageOf k ≡ Open → k ≡ 1
+-- a stage that is not empty has the number that means it
+kept-number : (k : ℕ) → stageNumber (stageOf k) ≢ 0 → k ≡ stageNumber (stageOf k)
 unfolding stageOf stageNumber
-open-number k q = go (eqb k 1) refl (eqb k 2) (ap stageNumber q)
+kept-number k = go (eqb k 1) refl (eqb k 2) refl
   where
-    go : (a : Bool) → eqb k 1 ≡ a → (b : Bool) → stageNumber (cond a Open (cond b Closed Empty)) ≡ 1 → k ≡ 1
-    go true e b h = eqb-true _ _ e
-    go false e true h = absurd (omega (arith, h))
-    go false e false h = absurd (omega (arith, h))
+    go : (a : Bool) → eqb k 1 ≡ a → (b : Bool) → eqb k 2 ≡ b → stageNumber (cond a Open (cond b Closed Empty)) ≢ 0 → k ≡ stageNumber (cond a Open (cond b Closed Empty))
+    go true e b f d = eqb-true _ _ e
+    go false e true f d = eqb-true _ _ f
+    go false e false f d = absurd (d refl)
 
 -- an ear is accepted on an open session
 given-open : (stage : Stage) (a : Answer) {vs : List ℕ} → byStage stage (refused 19 0) a (refused 22 0) ≡ given vs → stage ≡ Open
@@ -122,7 +127,15 @@ given-open Empty a q = never q
 given-open Open a q = refl
 given-open Closed a q = never q
 
--- the numbers after a call that succeeded: an ear leaves all but the counts of long ears and of switches born, close all but the stage
+-- and bringing over succeeds on a closed one
+given-closed : (stage : Stage) {vs : List ℕ} → byStage stage (refused 19 0) (refused 21 0) (given []) ≡ given vs → stage ≡ Closed
+unfolding byStage
+given-closed Empty q = never q
+given-closed Open q = never q
+given-closed Closed q = refl
+
+-- the numbers after a call that succeeded: an ear leaves all but the counts of long ears and of switches born, close all but the stage,
+-- and bringing over all
 module _ (mem : Memory) (s′ : Session) {vs : List ℕ} where
   pub ear-numbers : (e : List ℕ) → record { answer = given vs; after = s′ } ≡ offeredBy (sessionAt mem) e
       → (let k = mem .numbers in numbersBy (k .stage) (k .n) (k .m) (k .root) (k .first) (k .last) (s′ .longs) (s′ .born)) ≡ memoryOf s′ .numbers
@@ -135,18 +148,31 @@ module _ (mem : Memory) (s′ : Session) {vs : List ℕ} where
       let after : s′ ≡ w = ap (λ (x : Outcome Session). x .after) q ∙ ap (λ (x : Outcome Session). x .after) (settle-given s w told) in
       let isOpen : stageOf (k .stage) ≡ Open = given-open (s .stage) _ told in
       ap (λ (x : Session). numbersBy (k .stage) (k .n) (k .m) (k .root) (k .first) (k .last) (x .longs) (x .born)) after
-      ∙ ap (λ (j : ℕ). numbersBy j (k .n) (k .m) (k .root) (k .first) (k .last) (w .longs) (w .born)) (open-number (k .stage) isOpen ∙ sym (ap stageNumber isOpen))
+      ∙ ap (λ (j : ℕ). numbersBy j (k .n) (k .m) (k .root) (k .first) (k .last) (w .longs) (w .born)) (kept-number (k .stage) (λ z. let y : _≡_ {A = ℕ} 1 0 = sym (ap stageNumber isOpen) ∙ z in absurd (omega arith)))
       ∙ sym (ap (λ (x : Session). memoryOf x .numbers) after)
 
-  pub close-numbers : record { answer = given vs; after = s′ } ≡ closedBy (sessionAt mem)
+  pub close-numbers : record { answer = given vs; after = s′ } ≡ closedBy shortest (sessionAt mem)
       → (let k = mem .numbers in numbersBy 2 (k .n) (k .m) (k .root) (k .first) (k .last) (k .longs) (k .born)) ≡ memoryOf s′ .numbers
   unfolding closedBy settle stageNumber
   close-numbers q =
       let s = sessionAt mem in
-      let w = closedWith s (tree3Of (networkIn s) (s .births) (s .tree3)) in
-      let told : closedBy s .answer ≡ given vs = sym (ap (λ (x : Outcome Session). x .answer) q) in
+      let w = closedWith s (thirdIn shortest s) in
+      let told : closedBy shortest s .answer ≡ given vs = sym (ap (λ (x : Outcome Session). x .answer) q) in
       let after : s′ ≡ w = ap (λ (x : Outcome Session). x .after) q ∙ ap (λ (x : Outcome Session). x .after) (settle-given s w told) in
       sym (ap (λ (x : Session). memoryOf x .numbers) after)
+
+  pub bring-numbers : record { answer = given vs; after = s′ } ≡ broughtBy (sessionAt mem) → mem .numbers ≡ memoryOf s′ .numbers
+  unfolding broughtBy settle stageNumber
+  bring-numbers q =
+      let k = mem .numbers in
+      let s = sessionAt mem in
+      let w = withThird s (thirdIn shortest s) in
+      let told : broughtBy s .answer ≡ given vs = sym (ap (λ (x : Outcome Session). x .answer) q) in
+      let after : s′ ≡ w = ap (λ (x : Outcome Session). x .after) q ∙ ap (λ (x : Outcome Session). x .after) (settle-given s w told) in
+      let isClosed : stageOf (k .stage) ≡ Closed = given-closed (s .stage) told in
+      ap (λ (j : ℕ). numbersBy j (k .n) (k .m) (k .root) (k .first) (k .last) (k .longs) (k .born))
+      (kept-number (k .stage) (λ z. let y : _≡_ {A = ℕ} 2 0 = sym (ap stageNumber isClosed) ∙ z in absurd (omega arith)))
+      ∙ sym (ap (λ (x : Session). memoryOf x .numbers) after)
 
 -- the memory after ears, by the session that they left: its counts of long ears and of switches born, its arrays, and the other numbers
 -- as they were
@@ -202,9 +228,12 @@ module _ (mem : Memory) where
         output = n ∙ sym (ap (outputOf out) same);
       }
 
--- the lengths of what is lent to close, to parent and walk, to ear, and to zones, beside those of the arrays that are not
+-- the lengths of what is lent to close, to bringing over, to parent and walk, to ear, and to zones, beside those of the arrays that are not
 pub lengths-close : (l u b o p q t : ℕ) → o ≡ 1024 → p ≡ 1024 → q ≡ 1024 → wrongLengths l u b o p q t ≡ wrongLengths l u b 1024 1024 1024 t
 lengths-close l u b o p q t x y z = simp (x, y, z)
+
+pub lengths-bring : (l u b o p q t : ℕ) → u ≡ 4096 → o ≡ 1024 → p ≡ 1024 → q ≡ 1024 → wrongLengths l u b o p q t ≡ wrongLengths l 4096 b 1024 1024 1024 t
+lengths-bring l u b o p q t w x y z = simp (w, x, y, z)
 
 pub lengths-trees : (l u b o p q t : ℕ) → l ≡ 8192 → u ≡ 4096 → b ≡ 1024 → o ≡ 1024 → wrongLengths l u b o p q t ≡ wrongLengths 8192 4096 1024 1024 p q t
 lengths-trees l u b o p q t x y z w = simp (x, y, z, w)

@@ -6,7 +6,7 @@ use Prim.Native.Nat.{ℕ}
 use Rattle.mondschein.specs.Judge.{refused}
 use Rattle.mondschein.specs.Outcome.{Outcome}
 use Rattle.mondschein.specs.WholeList.{nextRefused, offering, earsIn}
-use Rattle.machine.specs.Machine.{Call, load, ear, ears, close, clear, Program}
+use Rattle.machine.specs.Machine.{Call, load, ear, ears, close, bringOver, clear, Program}
 use Rattle.in_place.specs.declared.Session.{Session}
 use Rattle.in_place.specs.Session.{zeros}
 use Rattle.in_place.specs.Queries.{parentBy, walkedBy}
@@ -25,7 +25,8 @@ unfoldable pub calledIn : Memory → Call → Outcome Memory
 calledIn mem (load net) = singleIn mem (load net)
 calledIn mem (ear e) = singleIn mem (ear e)
 calledIn mem (ears l) = offering (λ mem e. singleIn mem (ear e)) mem (earsIn l)
-calledIn mem close = singleIn mem close
+calledIn mem (close rule) = singleIn mem (close rule)
+calledIn mem bringOver = singleIn mem bringOver
 calledIn mem clear = singleIn mem clear
 
 -- all zeros

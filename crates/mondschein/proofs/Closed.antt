@@ -1,7 +1,7 @@
 -- Laws of closed lists, whose links are all used: from every switch the entries of trees 1, 2 and 3 lead back in the order, on in it and to
 -- a later birth; first comes last in the order, last is born last and alone, and tree 1 leaves an ear at its first new switch.
 use mathlib.Core.Path.{_≡_, sym, ap, _∙_, subst}
-use mathlib.Core.Logic.{_⊎_, ⊎-elim, _≢_}
+use mathlib.Core.Logic.{⊎-elim, _≢_}
 use mathlib.Core.Bool.{true, _||_}
 use Prim.Native.Nat.{ℕ, zero, suc, pred, _≤_, _<_}
 use native.Mathlib.Omega.{arith}
@@ -9,14 +9,14 @@ use lib.Dec.{eqb}
 use lib.ListN.{length, take}
 use lib.Seq.{take-length}
 use Rattle.mondschein.specs.Network.{Network, at, holds, size, Adjacent, Proper, Ears, earAt, born, birth, used, isNew}
-use Rattle.mondschein.specs.Order.{position, order, course, parent1, parent2, parent3By}
+use Rattle.mondschein.specs.Order.{position, order, course, parent1, parent2, lowest, parent3Of}
 use Rattle.mondschein.proofs.Logic.{clash, less?, same?, or-true}
 use Rattle.mondschein.proofs.Lists.{at-same, holds-in}
 use Rattle.mondschein.proofs.Links.{joined-adjacent, joined-sym, adjacent-below}
 use Rattle.mondschein.proofs.Births.{Passing, born-take, take-born, birth-is, birth-le, birth-lt, birth-held, birth-isNew}
 use Rattle.mondschein.proofs.Order.{position-at, turned-fits}
 use Rattle.mondschein.proofs.Growth.{whole-grown, order-full, order-simple, course-turned, grown, later-fits}
-use Rattle.mondschein.proofs.Trees.{some-ear, last-born, all-born, rise, down, upward, born-later, third-rule, root-birth, before}
+use Rattle.mondschein.proofs.Trees.{some-ear, last-born, all-born, rise, down, upward, born-later, lowest-third, root-birth, before}
 
 module _ (net : Network) (proper : Proper net) (es : Ears) (acc : Passing net es) (done : (l : ℕ) → l < size net → used net es l ≡ true) where
   abbrev s : ℕ → ℕ
@@ -39,8 +39,8 @@ module _ (net : Network) (proper : Proper net) (es : Ears) (acc : Passing net es
   onward x m d f = let h = upward net proper es acc done x m d f in (h .below-z, joined-adjacent net x _ (h .link-az), h .up-az, h .old-z)
 
   pub out : (x : ℕ) → x < net .n → x ≢ net .root → x ≢ net .last
-      → (parent3By net (birth es) x < net .n) × Adjacent net x (parent3By net (birth es) x) × (birth es x < birth es (parent3By net (birth es) x))
-  out x m d f = let h = third-rule net proper es acc done .other x m d f in (h .below, h .adjacent, born-later net proper es acc done x _ h)
+      → (parent3Of net (birth es) lowest x < net .n) × Adjacent net x (parent3Of net (birth es) lowest x) × (birth es x < birth es (parent3Of net (birth es) lowest x))
+  out x m d f = let h = lowest-third net proper es acc done .other x m d f in (h .below, h .adjacent, born-later net proper es acc done x _ h)
 
   -- first comes last in the order
   pub first-highest : (x : ℕ) → x < net .n → s x ≤ s (net .first)

@@ -10,9 +10,9 @@ use lib.ListN.{length, take, drop, length-append}
 use lib.Seq.{getD-append-add, take-at, drop-at}
 use borrow.Author.Tests.{lt-ltb}
 use Rattle.mondschein.specs.Network.{Network, at, Simple, size, Proper, Ears, earAt, birth, used}
-use Rattle.mondschein.specs.Order.{position, fromA, between, extend, orderAfter, course, parent1, parent2, parent3By, parentOf}
+use Rattle.mondschein.specs.Order.{position, fromA, between, extend, orderAfter, course, Rule, lowest, shortest, parent1, parent2, parent3Of, parentOf}
 use Rattle.mondschein.specs.Mondschein.{Birth}
-use Rattle.mondschein.specs.Routes.{Tree, Earlier, Next, FromA, Inserted, OrderRules, Course, TableRules}
+use Rattle.mondschein.specs.Routes.{Tree, Earlier, Next, FromA, Inserted, OrderRules, Course, LowestThird, ThirdBy, TableRules}
 use Rattle.mondschein.specs.Lists.{RulesDecide}
 use Rattle.mondschein.proofs.Logic.{same?}
 use Rattle.mondschein.proofs.Lists.{at-same}
@@ -20,8 +20,9 @@ use Rattle.mondschein.proofs.Births.{Passing, birth-unique}
 use Rattle.mondschein.proofs.Order.{position-is, Fits, fromA-reverse, turned-simple, put, extend-is}
 use Rattle.mondschein.proofs.Growth.{order-suc, order-one, grown, later-fits, course-turned, parent1-root, parent2-root, parent2-first}
 use Rattle.mondschein.proofs.Routes.{by-tree}
-use Rattle.mondschein.proofs.Trees.{third-rule, third-lowest, before, after}
+use Rattle.mondschein.proofs.Trees.{lowest-third, third-lowest, before, after}
 use Rattle.mondschein.proofs.Complete.{complete, complete-used}
+use Rattle.mondschein.proofs.Thirds.{shortest-decided}
 
 -- what stands once in a list has one position
 position-once : (o : List ℕ) → Simple o → (k x : ℕ) → k < length o → at o k ≡ x → position o x ≡ k
@@ -113,7 +114,23 @@ module _ (net : Network) (proper : Proper net) (es : Ears) (acc : Passing net es
   one-after : (c : List ℕ) → Simple c → (v x y : ℕ) → Next c v x → Next c v y → x ≡ y
   one-after c s v x y (j, l, p, q) (k, m, p′, q′) = sym q ∙ at-same c (suc j) (suc k) (let z = s j k (omega arith) (omega arith) (p ∙ sym p′) in let w : suc j ≡ suc k = omega arith in w) ∙ q′
 
-  module _ (p : ℕ → ℕ → ℕ) (t : TableRules net es o p) where
+  -- tree 3 of document 01
+  lowest-decided : (q : ℕ → ℕ) → LowestThird net es q → (v : ℕ) → v < net .n → q v ≡ parent3Of net (birth es) lowest v
+  lowest-decided q T v m =
+      let r = lowest-third net proper es acc done in
+      ⊎-elim
+      (λ (z : v ≡ net .root). ap q z ∙ T .third .root ∙ sym (r .root) ∙ ap (parent3Of net (birth es) lowest) (sym z))
+      (λ d. ⊎-elim
+      (λ (z : v ≡ net .last). ap q z ∙ T .third .last ∙ sym (r .last) ∙ ap (parent3Of net (birth es) lowest) (sym z))
+      (λ f. omega (arith, T .least v m d f _ (r .other v m d f), third-lowest net proper es acc done v d f _ (T .third .other v m d f)))
+      (same? v (net .last)))
+      (same? v (net .root))
+
+  third-decided : (rule : Rule) (q : ℕ → ℕ) → ThirdBy net es rule q → (v : ℕ) → v < net .n → q v ≡ parent3Of net (birth es) rule v
+  third-decided lowest q T = lowest-decided q T
+  third-decided shortest q T = shortest-decided net proper es acc done q T
+
+  module _ (rule : Rule) (p : ℕ → ℕ → ℕ) (t : TableRules net es rule o p) where
     first-decided : (v : ℕ) → v < net .n → p 1 v ≡ parent1 net es v
     first-decided v m =
         ⊎-elim
@@ -137,20 +154,9 @@ module _ (net : Network) (proper : Proper net) (es : Ears) (acc : Passing net es
         (same? v (net .first)))
         (same? v (net .root))
 
-    third-decided : (v : ℕ) → v < net .n → p 3 v ≡ parent3By net (birth es) v
-    third-decided v m =
-        let r = third-rule net proper es acc done in
-        ⊎-elim
-        (λ (z : v ≡ net .root). ap (p 3) z ∙ t .tree3 .root ∙ sym (r .root) ∙ ap (parent3By net (birth es)) (sym z))
-        (λ d. ⊎-elim
-        (λ (z : v ≡ net .last). ap (p 3) z ∙ t .tree3 .last ∙ sym (r .last) ∙ ap (parent3By net (birth es)) (sym z))
-        (λ f. omega (arith, t .lowest3 v m d f _ (r .other v m d f), third-lowest net proper es acc done v d f _ (t .tree3 .other v m d f)))
-        (same? v (net .last)))
-        (same? v (net .root))
-
-    tables-decided : (u v : ℕ) → Tree u → v < net .n → p u v ≡ parentOf net es u v
+    tables-decided : (u v : ℕ) → Tree u → v < net .n → p u v ≡ parentOf rule net es u v
     unfolding parentOf
-    tables-decided u v m l = by-tree (λ u. p u v ≡ parentOf net es u v) (first-decided v l) (second-decided v l) (third-decided v l) u m
+    tables-decided u v m l = by-tree (λ u. p u v ≡ parentOf rule net es u v) (first-decided v l) (second-decided v l) (third-decided rule (p 3) (t .tree3) v l) u m
 
 pub rules-decide : RulesDecide
 rules-decide net es proper M o rules =

@@ -11,7 +11,7 @@ use lib.ListN.{length, length-append}
 use borrow.Author.Tests.{eqb-true, eqb-false, ne-eqb}
 use Rattle.mondschein.specs.Network.{Network, holds, passes, Ears, born, birth, trail, used, newSwitches, longEars, longBirth}
 use Rattle.mondschein.specs.Judge.{given, Accepted}
-use Rattle.mondschein.specs.Order.{fromA, extend, order, parent1, parent2, parentOf}
+use Rattle.mondschein.specs.Order.{fromA, extend, order, Rule, parent1, parent2, parentOf}
 use Rattle.mondschein.specs.Mondschein.{Mondschein}
 use Rattle.mondschein.specs.EmptyEar.{isEmpty, answerTo, entered, writtenOut, allWrittenOut, longOnes, LongEarsEnough}
 use Rattle.mondschein.proofs.Logic.{which, less?, or-false, false-or}
@@ -20,7 +20,8 @@ use Rattle.mondschein.proofs.Births.{Passing, accepted-passing, accepte
 use Rattle.mondschein.proofs.Counts.{judged, passing-accepted}
 use Rattle.mondschein.proofs.SameTables.{SameTables, same-itself, same-on, same-more}
 use Rattle.mondschein.proofs.Closing.{closing-used}
-use Rattle.mondschein.proofs.Trees.{parent3-ext, some-ear, all-born}
+use Rattle.mondschein.proofs.Trees.{some-ear, all-born}
+use Rattle.mondschein.proofs.Reaching.{parent3-ext}
 use Rattle.mondschein.proofs.Sound.{sound}
 use Rattle.mondschein.proofs.Complete.{complete, complete-used}
 use Rattle.mondschein.proofs.Bounds.{later-birth}
@@ -159,15 +160,16 @@ long-accepted net (e ∷ rest) es ds acc g a = go (eqb (length e) 2) refl (λ cs
 
 -- lists with the same births and tables have the same third table too
 same-tables : (net : Network) (es ds : Ears) → Passing net es → Passing net ds → ((x : ℕ) → longBirth ds x ≡ longBirth es x) → SameTables net es ds
-    → ((x : ℕ) → x < net .n → born es x ≡ true) → (t v : ℕ) → v < net .n → parentOf net ds t v ≡ parentOf net es t v
+    → ((x : ℕ) → x < net .n → born es x ≡ true) → (rule : Rule) (t v : ℕ) → v < net .n → parentOf rule net ds t v ≡ parentOf rule net es t v
 unfolding parentOf
-same-tables net es ds acc acc′ longBirths same all t v l =
+same-tables net es ds acc acc′ longBirths same all rule t v l =
     let alls : (x : ℕ) → x < net .n → born ds x ≡ true = λ x m. sym (same .borns x) ∙ all x m in
     rw (same .firsts v (all v l), same .seconds v (all v l))
     (ap (λ (k : ℕ). cond (eqb t 1) (parent1 net ds v) (cond (eqb t 2) (parent2 net ds v) k))
-    (parent3-ext net (birth ds) (birth es) v
-    (λ x m.
-    sym (later-birth net ds acc′ v x (alls v l) (alls x m)) ∙ ap₂ ltb (longBirths v) (longBirths x) ∙ later-birth net es acc v x (all v l) (all x m))))
+    (parent3-ext net (birth ds) (birth es)
+    (λ v x l m.
+    sym (later-birth net ds acc′ v x (alls v l) (alls x m)) ∙ ap₂ ltb (longBirths v) (longBirths x) ∙ later-birth net es acc v x (all v l) (all x m))
+    rule v l))
 
 pub long-ears-enough : LongEarsEnough
 unfolding allWrittenOut
@@ -185,7 +187,7 @@ long-ears-enough net es proper M =
     let passing = accepted-passing net (entered net ls []) (empty-accepted net proper ls long a) in
     let used = closing-used net (entered net ls []) [] (t .closes (λ v m. sym (g .tables .borns v) ∙ all v m)) in
     let same = same-on net es ls (entered net ls []) (g .tables) (same-unchanged net ls (entered net ls []) (t .stays)) in
-    subst (λ (ds : Ears). Mondschein net ds × (order ds ≡ order es) × ((t v : ℕ) → v < net .n → parentOf net ds t v ≡ parentOf net es t v)) whole (
+    subst (λ (ds : Ears). Mondschein net ds × (order ds ≡ order es) × ((rule : Rule) (t v : ℕ) → v < net .n → parentOf rule net ds t v ≡ parentOf rule net es t v)) whole (
       sound net proper (entered net ls []) passing used,
       sym (same .orders),
       same-tables net es (entered net ls []) acc passing (λ x. t .stays .longBirths x ∙ g .longBirths x) same all,

@@ -2,7 +2,7 @@
 -- and so has three routes to the root, whichever later-born neighbours are taken as tree 3.
 use mathlib.Core.Path.{_≡_, refl, sym, ap, _∙_, subst}
 use mathlib.Core.Logic.{_⊎_, inl, inr, ⊎-elim, _≢_}
-use mathlib.Core.Bool.{Bool, true, false, _&&_, cond}
+use mathlib.Core.Bool.{Bool, true, false, _&&_}
 use mathlib.Core.List.{List}
 use Prim.Native.Nat.{ℕ, zero, suc, pred, _+_, _-_, _≤_, _<_}
 use native.Mathlib.Omega.{arith}
@@ -11,23 +11,16 @@ use lib.ListN.{length, take}
 use lib.Seq.{take-length}
 use borrow.Author.Tests.{ltb-true, ltb-false, lt-ltb, eq-eqb, ne-eqb}
 use Rattle.mondschein.specs.Network.{low, Network, at, holds, size, Adjacent, joins, joined, passes, Proper, Ears, earAt, born, birth, trail, used, isNew}
-use Rattle.mondschein.specs.Order.{position, order, course, parent1, parent2, parent3By, parentOf, walkBy, walkOf}
-use Rattle.mondschein.specs.Routes.{Tree, LaterBorn, Third, ThreeRoutes}
+use Rattle.mondschein.specs.Order.{position, order, course, parent1, parent2, lowest, taken, parent3Of, walkBy}
+use Rattle.mondschein.specs.Routes.{LaterBorn, Third, ThreeRoutes}
 use Rattle.mondschein.proofs.Logic.{which, clash, same?, less?, trichotomy, and-true, true-and, or-true, and-false}
-use Rattle.mondschein.proofs.Search.{low-is, low-ext, low-found, any-true}
+use Rattle.mondschein.proofs.Search.{low-is, low-found, any-true}
 use Rattle.mondschein.proofs.Lists.{at-same, holds-in, holds-at, holds-by}
-use Rattle.mondschein.proofs.Links.{joined-adjacent, adjacent-joined, joined-sym, passes-held, trail-held, adjacent-below}
+use Rattle.mondschein.proofs.Links.{joined-adjacent, adjacent-joined, joined-sym, passes-held, trail-held}
 use Rattle.mondschein.proofs.Births.{Passing, first-passed, ear-two, at-born, born-take, take-born, birth-le, birth-lt, birth-held, not-before, birth-isNew, birth-birth, birth-unique}
 use Rattle.mondschein.proofs.Order.{position-at, turned-fits, turned-on, turned-back}
 use Rattle.mondschein.proofs.Growth.{grown, course-turned, later-fits, root-held, parent1-root, parent2-root, parent2-first}
-use Rattle.mondschein.proofs.Routes.{by-tree, walk-ext, Numbered, three-routes}
-
--- tree 3 asks only which switches are born later
-pub parent3-ext : (net : Network) (b b′ : ℕ → ℕ) (v : ℕ) → ((x : ℕ) → x < net .n → ltb (b v) (b x) ≡ ltb (b′ v) (b′ x)) → parent3By net b v ≡ parent3By net b′ v
-unfolding parent3By
-parent3-ext net b b′ v h =
-    ap (λ (y : ℕ). cond (eqb v (net .root)) v (cond (eqb v (net .last)) (net .root) y))
-    (low-ext _ _ (net .n) (λ x m. ap (λ (c : Bool). joined net v x && c) (h x m)))
+use Rattle.mondschein.proofs.Routes.{by-tree, Numbered, three-routes}
 
 module _ (net : Network) (proper : Proper net) (es : Ears) (acc : Passing net es) (done : (l : ℕ) → l < size net → used net es l ≡ true) where
   -- the ear that uses a link
@@ -204,15 +197,15 @@ module _ (net : Network) (proper : Proper net) (es : Ears) (acc : Passing net es
       record {
         below = m′;
         adjacent = j;
-        later = (birth es x, birth es y, birth-birth es x (all-born x m), birth-birth es y (all-born y m′), h);
+        later = (birth es x, birth es y, birth-birth es x (all-born x m), birth-birth es y (all-born y m′), omega (arith, h));
       }
 
   pub born-later : (x y : ℕ) → LaterBorn net es x y → birth es x < birth es y
   born-later x y h = let (i, j, b, c, l) = h .later in omega (arith, birth-unique es i x b, birth-unique es j y c)
 
-  pub third-rule : Third net es (parent3By net (birth es))
-  unfolding parent3By
-  third-rule =
+  pub lowest-third : Third net es (parent3Of net (birth es) lowest)
+  unfolding parent3Of taken
+  lowest-third =
       record {
         root = rw (eq-eqb (net .root) (net .root) refl);
         last = rw (ne-eqb (net .last) (net .root) (λ z. proper .distinct .1 (sym z)), eq-eqb (net .last) (net .last) refl);
@@ -223,8 +216,8 @@ module _ (net : Network) (proper : Proper net) (es : Ears) (acc : Passing net es
             rw (ne-eqb x (net .root) d, ne-eqb x (net .last) f) (later-born x _ m l (joined-adjacent net x _ u) (ltb-true _ _ v));
       }
 
-  pub third-lowest : (x : ℕ) → x ≢ net .root → x ≢ net .last → (y : ℕ) → LaterBorn net es x y → parent3By net (birth es) x ≤ y
-  unfolding parent3By
+  pub third-lowest : (x : ℕ) → x ≢ net .root → x ≢ net .last → (y : ℕ) → LaterBorn net es x y → parent3Of net (birth es) lowest x ≤ y
+  unfolding parent3Of taken
   third-lowest x d f y h =
       rw (ne-eqb x (net .root) d, ne-eqb x (net .last) f)
       (⊎-elim
@@ -339,15 +332,3 @@ module _ (net : Network) (proper : Proper net) (es : Ears) (acc : Passing net es
 
     pub closed-routes : ThreeRoutes net p (λ t v. walkBy (net .root) (p t) (pred (net .n)) v)
     closed-routes = three-routes net (birth es) s p numbered
-
-module _ (net : Network) (proper : Proper net) (es : Ears) (acc : Passing net es) (done : (l : ℕ) → l < size net → used net es l ≡ true) (t : ℕ) (tree : Tree t) where
-  -- the entry of a switch other than the root is a switch
-  parent-below : (x : ℕ) → x < net .n → x ≢ net .root → parentOf net es t x < net .n
-  unfolding parentOf
-  parent-below x l d =
-      adjacent-below net proper x _ (closed-routes net proper es acc done (parentOf net es) (λ v _. refl) (λ v _. refl) (third-rule net proper es acc done) .trees t tree .linked x l d) .1
-
-  -- a walk asks only the entries of switches
-  pub walk-of : (p : ℕ → ℕ) → ((x : ℕ) → x < net .n → parentOf net es t x ≡ p x) → (v : ℕ) → v < net .n → walkOf net es t v ≡ walkBy (net .root) p (pred (net .n)) v
-  unfolding walkOf
-  walk-of p e v l = walk-ext (net .root) (net .n) (parentOf net es t) p e parent-below (pred (net .n)) v l

@@ -8,7 +8,7 @@ use lib.Dec.{eqb}
 use lib.ListN.{length, take}
 use Rattle.mondschein.specs.Network.{Network, size, former, latter, Proper, Ears, earAt, born, birth, used, longEars, longBirth}
 use Rattle.mondschein.specs.Judge.{Answer, given, verdict, judge, closing, Accepted}
-use Rattle.mondschein.specs.Order.{order, parent1, parent2, parentOf}
+use Rattle.mondschein.specs.Order.{order, Rule, parent1, parent2, parentOf}
 use Rattle.mondschein.specs.Mondschein.{Mondschein}
 
 -- where `isBorn` are born and `isUsed` used
@@ -79,4 +79,4 @@ LeftOver = (net : Network) (es : Ears) → Proper net → 0 < length es → Acce
 -- and the same tables
 abbrev pub LongEarsEnough : Type 0
 LongEarsEnough = (net : Network) (es : Ears) → Proper net → Mondschein net es → let ds = allWrittenOut net (longOnes es ++ ([] ∷ [])) in
-    Mondschein net ds × (order ds ≡ order es) × ((t v : ℕ) → v < net .n → parentOf net ds t v ≡ parentOf net es t v)
+    Mondschein net ds × (order ds ≡ order es) × ((rule : Rule) (t v : ℕ) → v < net .n → parentOf rule net ds t v ≡ parentOf rule net es t v)

@@ -1,11 +1,11 @@
--- Document 01, "Order, tables and walks": the order of switches, the three parent tables and the walks, as its rules compute
--- them. Routes.antt says the same as relations.
-use mathlib.Core.Bool.{Bool, _&&_, cond}
+-- Document 01, "Order, tables and walks", with document 02, Note 6: the order of switches, the three parent tables and the walks, as the
+-- rules compute them. Routes.antt says the same as relations.
+use mathlib.Core.Bool.{Bool, _&&_, _||_, cond}
 use mathlib.Core.List.{List, [], _∷_, _++_, reverse, foldl}
 use Prim.Native.Nat.{ℕ, zero, suc, pred}
 use lib.Dec.{eqb, ltb}
 use lib.ListN.{length, take, drop}
-use Rattle.mondschein.specs.Network.{low, Network, at, joined, Ears, earAt, birth}
+use Rattle.mondschein.specs.Network.{low, any, Network, at, joined, Ears, earAt, birth}
 
 -- the position of x in the list, or its length
 unfoldable pub position : List ℕ → ℕ → ℕ
@@ -51,15 +51,39 @@ parent1 net es v = let c = course es (birth es v) in cond (eqb v (net .root)) v 
 unfoldable pub parent2 : Network → Ears → ℕ → ℕ
 parent2 net es v = let c = course es (birth es v) in cond (eqb v (net .root)) v (cond (eqb v (net .first)) (net .root) (at c (suc (position c v))))
 
--- tree 3, of any numbering of births: last has parent root, any other switch the lowest-numbered neighbour born later
-unfoldable pub parent3By : Network → (ℕ → ℕ) → ℕ → ℕ
-parent3By net birthOf v =
-    cond (eqb v (net .root)) v
-    (cond (eqb v (net .last)) (net .root) (low (λ x. joined net v x && ltb (birthOf v) (birthOf x)) (net .n)))
+-- tree 3 takes a neighbour born later by a rule: the lowest number (document 01), or the lowest number of those whose own third walk is
+-- shortest (document 02, Note 6)
+pub data Rule : Type 0 where
+  lowest : Rule
+  shortest : Rule
+
+-- births numbered in any way
+module _ (net : Network) (birthOf : ℕ → ℕ) where
+  -- x is a neighbour of v born later
+  abbrev pub isLater : ℕ → ℕ → Bool
+  isLater v x = joined net v x && ltb (birthOf v) (birthOf x)
+
+  -- from v at most k links, each to a neighbour born later, lead to last
+  unfoldable pub reaches : ℕ → ℕ → Bool
+  reaches zero v = eqb v (net .last)
+  reaches (suc k) v = eqb v (net .last) || any (λ x. isLater v x && reaches k x) (net .n)
+
+  -- the fewest such links, or N; the shortest third walk of v has one link more, from last to root
+  unfoldable pub distance : ℕ → ℕ
+  distance v = low (λ k. reaches k v) (net .n)
+
+  -- the neighbour that the rule takes, or N: under Note 6 it is one link nearer to last
+  unfoldable pub taken : Rule → ℕ → ℕ
+  taken lowest v = low (isLater v) (net .n)
+  taken shortest v = low (λ x. isLater v x && eqb (suc (distance x)) (distance v)) (net .n)
+
+  -- tree 3: last has parent root
+  unfoldable pub parent3Of : Rule → ℕ → ℕ
+  parent3Of rule v = cond (eqb v (net .root)) v (cond (eqb v (net .last)) (net .root) (taken rule v))
 
 -- table t, 1 to 3
-unfoldable pub parentOf : Network → Ears → ℕ → ℕ → ℕ
-parentOf net es t v = cond (eqb t 1) (parent1 net es v) (cond (eqb t 2) (parent2 net es v) (parent3By net (birth es) v))
+unfoldable pub parentOf : Rule → Network → Ears → ℕ → ℕ → ℕ
+parentOf rule net es t v = cond (eqb t 1) (parent1 net es v) (cond (eqb t 2) (parent2 net es v) (parent3Of net (birth es) rule v))
 
 -- the walk of v by the table p, cut after k links
 unfoldable pub walkBy : ℕ → (ℕ → ℕ) → ℕ → ℕ → List ℕ
@@ -67,5 +91,5 @@ walkBy root p zero v = v ∷ []
 walkBy root p (suc k) v = cond (eqb v root) (v ∷ []) (v ∷ walkBy root p k (p v))
 
 -- the walk of v in tree t: N - 1 links are enough
-unfoldable pub walkOf : Network → Ears → ℕ → ℕ → List ℕ
-walkOf net es t v = walkBy (net .root) (parentOf net es t) (pred (net .n)) v
+unfoldable pub walkOf : Rule → Network → Ears → ℕ → ℕ → List ℕ
+walkOf rule net es t v = walkBy (net .root) (parentOf rule net es t) (pred (net .n)) v

@@ -1,12 +1,12 @@
--- Document 01, "Order, tables and walks", as relations: the rules of the order and of the three tables of a list of ears, and what
--- demand 3 says of tables and walks. Trees are numbered 1 to 3: `p t v` is the entry of switch v in table t, `w t v` its walk.
+-- Document 01, "Order, tables and walks", with document 02, Note 6, as relations: the rules of the order and of the three tables of a list
+-- of ears, and what demand 3 says of tables and walks. Trees are numbered 1 to 3: `p t v` is the entry of switch v in table t, `w t v` its walk.
 use mathlib.Core.Path.{_≡_}
 use mathlib.Core.Logic.{_⊎_, _≢_, _↔_}
 use mathlib.Core.List.{List, [], _∷_, _++_, reverse}
 use Prim.Native.Nat.{ℕ, zero, suc, pred, _≤_, _<_}
 use lib.ListN.{length}
 use Rattle.mondschein.specs.Network.{Network, at, In, Simple, size, Joins, Adjacent, Along, Ears, earAt}
-use Rattle.mondschein.specs.Order.{between}
+use Rattle.mondschein.specs.Order.{between, Rule, lowest, shortest}
 use Rattle.mondschein.specs.Mondschein.{Birth}
 
 abbrev pub Tree : ℕ → Type 0
@@ -51,6 +51,11 @@ module _ (net : Network) (es : Ears) (o : ℕ → List ℕ) where
   Course zero c = c ≡ earAt es 0
   Course (suc i) c = FromA (o (suc i)) (earAt es (suc i)) c
 
+-- a walk is the switch, followed by the walk of its parent; the walk of the root is the root only
+pub data Walk (root : ℕ) (p : ℕ → ℕ) : ℕ → List ℕ → Type 0 where
+  arrived : Walk root p root (root ∷ [])
+  onward : {v : ℕ} {w : List ℕ} → v ≢ root → Walk root p (p v) w → Walk root p v (v ∷ w)
+
 module _ (net : Network) (es : Ears) where
   -- y is a neighbour of v born in a later ear
   pub record LaterBorn (v y : ℕ) : Type 0 where
@@ -64,19 +69,29 @@ module _ (net : Network) (es : Ears) where
     pub last : p (net .last) ≡ net .root
     pub other : (v : ℕ) → v < net .n → v ≢ net .root → v ≢ net .last → LaterBorn v (p v)
 
-  -- the three tables, with the order o
-  pub record TableRules (o : ℕ → List ℕ) (p : ℕ → ℕ → ℕ) : Type 0 where
+  -- document 01's: none is lower
+  pub record LowestThird (p : ℕ → ℕ) : Type 0 where
+    pub third : Third p
+    pub least : (v : ℕ) → v < net .n → v ≢ net .root → v ≢ net .last → (y : ℕ) → LaterBorn v y → p v ≤ y
+
+  -- Note 6's: none has a shorter third walk of its own, by this very table, and none of those with as short a one is lower
+  pub record ShortestThird (p : ℕ → ℕ) : Type 0 where
+    pub third : Third p
+    pub least : (v : ℕ) → v < net .n → v ≢ net .root → v ≢ net .last → (y : ℕ) → LaterBorn v y → (w w′ : List ℕ) → Walk (net .root) p (p v) w → Walk (net .root) p y w′
+        → (length w < length w′) ⊎ ((length w ≡ length w′) × (p v ≤ y))
+
+  -- tree 3 by the rule
+  abbrev pub ThirdBy : Rule → (ℕ → ℕ) → Type 0
+  ThirdBy lowest p = LowestThird p
+  ThirdBy shortest p = ShortestThird p
+
+  -- the three tables, with the order o and tree 3 by the rule
+  pub record TableRules (rule : Rule) (o : ℕ → List ℕ) (p : ℕ → ℕ → ℕ) : Type 0 where
     pub root : (t : ℕ) → Tree t → p t (net .root) ≡ net .root
     pub tree1 : (v : ℕ) → v < net .n → v ≢ net .root → (i : ℕ) × (c : List ℕ) × Birth es i v × Course net es o i c × Next c (p 1 v) v
     pub tree2 : (v : ℕ) → v < net .n → v ≢ net .root → v ≢ net .first → (i : ℕ) × (c : List ℕ) × Birth es i v × Course net es o i c × Next c v (p 2 v)
     pub first2 : p 2 (net .first) ≡ net .root
-    pub tree3 : Third (p 3)
-    pub lowest3 : (v : ℕ) → v < net .n → v ≢ net .root → v ≢ net .last → (y : ℕ) → LaterBorn v y → p 3 v ≤ y
-
--- a walk is the switch, followed by the walk of its parent; the walk of the root is the root only
-pub data Walk (root : ℕ) (p : ℕ → ℕ) : ℕ → List ℕ → Type 0 where
-  arrived : Walk root p root (root ∷ [])
-  onward : {v : ℕ} {w : List ℕ} → v ≢ root → Walk root p (p v) w → Walk root p v (v ∷ w)
+    pub tree3 : ThirdBy rule (p 3)
 
 -- k steps, each from a switch to its entry
 unfoldable pub steps : (ℕ → ℕ) → ℕ → ℕ → ℕ

@@ -1,6 +1,6 @@
 -- Laws of `assigned`: its length, what stands at an index that no key, one key or some key names, or that is its own key, and one
 -- number more in the code's terms, where the index is `k + 1` for `suc k`. A key past the end of the row changes nothing.
-use mathlib.Core.Path.{_≡_, refl, sym, ap, _∙_}
+use mathlib.Core.Path.{_≡_, refl, sym, ap, ap₂, _∙_}
 use mathlib.Core.Logic.{⊎-elim, _≢_}
 use mathlib.Core.Bool.{Bool, true, false, _||_, cond}
 use mathlib.Core.List.{List}
@@ -52,6 +52,12 @@ module _ (row : List ℕ) (key value : ℕ → ℕ) where
       (λ (e : c ≡ k). rw (e, eq-eqb (key k) (key k) refl))
       (λ (n : c ≢ k). rw (ne-eqb (key c) (key k) (λ e. n (d c (omega arith) e))) (assigned-at c k (omega arith) h (λ j m. d j (omega arith))))
       (same? c k)
+
+-- other values that are the same
+pub assigned-ext : (row : List ℕ) (key value value′ : ℕ → ℕ) → ((k : ℕ) → value k ≡ value′ k) → (c : ℕ) → assigned row key value c ≡ assigned row key value′ c
+unfolding assigned
+assigned-ext row key value value′ e zero = refl
+assigned-ext row key value value′ e (suc c) = ap₂ (λ (l : List ℕ) (x : ℕ). set l (key c) x) (assigned-ext row key value value′ e c) (e c)
 
 -- the same value for every key
 pub assigned-same : (row : List ℕ) (key : ℕ → ℕ) (b c x : ℕ) → x < length row → at (assigned row key (λ k. b) c) x ≡ cond (any (λ k. eqb (key k) x) c) b (at row x)

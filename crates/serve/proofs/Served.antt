@@ -6,6 +6,7 @@ use mathlib.Core.List.{List}
 use Prim.Native.Nat.{ℕ, pred, _*_}
 use lib.ListN.{take, drop}
 use Rattle.mondschein.specs.Network.{at}
+use Rattle.mondschein.specs.Order.{shortest}
 use Rattle.network.specs.Load.{networkOf}
 use Rattle.in_place.specs.declared.Session.{Session}
 use Rattle.in_place.specs.Session.{emptySession, loadedBy, offeredBy, closedBy}
@@ -49,11 +50,11 @@ module _ (numbers : List ℕ) (r : Code·Reader) (s : Session) (links : List ℕ
       serves-call (Ear count) (r .kept) (o .after) (replyTo (λ vs. new (at vs 0)) (o .answer)) g (λ own. refl) e
 
   pub serves-close : q ≡ Close
-      → (let o = closedBy s in repliedIn x s′ bytes ≡ repliedBy r (r .kept) (o .after) (replyTo (λ vs. closed) (o .answer)))
+      → (let o = closedBy shortest s in repliedIn x s′ bytes ≡ repliedBy r (r .kept) (o .after) (replyTo (λ vs. closed) (o .answer)))
       → Serves (Call q) numbers r s links x s′ bytes
   unfolding respond requested formOf
   serves-close g e =
-      let o = closedBy s in
+      let o = closedBy shortest s in
       serves-call Close (r .kept) (o .after) (replyTo (λ vs. closed) (o .answer)) g (λ own. refl) e
 
   pub serves-clear : q ≡ Clear → repliedIn x s′ bytes ≡ repliedBy r freshKept emptySession cleared → Serves (Call q) numbers r s links x s′ bytes

@@ -3,24 +3,27 @@
 use mathlib.Core.List.{[]}
 use Rattle.mondschein.specs.Judge.{given}
 use Rattle.mondschein.specs.Outcome.{Outcome}
-use Rattle.machine.specs.Machine.{Call, load, ear, ears, close, clear}
+use Rattle.machine.specs.Machine.{Call, load, ear, ears, close, bringOver, clear}
 use Rattle.network.specs.Load.{loadAnswer}
 use Rattle.judge.specs.Ear.{earAnswer}
 use Rattle.closing.specs.Closing.{closeAnswer}
 use Rattle.in_place.specs.declared.Session.{Session}
-use Rattle.in_place.specs.Session.{loadedBy, offeredBy, listedBy, closedBy, clearedBy}
+use Rattle.in_place.specs.Session.{loadedBy, offeredBy, listedBy, closedBy, broughtBy, clearedBy}
 use Rattle.offering.specs.Offering.{earsAnswer}
 use Rattle.session.specs.declared.Loading.{Loading}
 use Rattle.session.specs.declared.Offering.{Offering}
 use Rattle.session.specs.declared.Listing.{Listing}
+use Rattle.bringing.specs.Bringing.{bringAnswer}
 use Rattle.session.specs.declared.Closing.{Closing}
+use Rattle.session.specs.declared.Bringing.{Bringing}
 
 -- one call
 unfoldable pub called : Session → Call → Outcome Session
 called s (load net) = loadedBy s net
 called s (ear e) = offeredBy s e
 called s (ears l) = listedBy s l
-called s close = closedBy s
+called s (close rule) = closedBy rule s
+called s bringOver = broughtBy s
 called s clear = clearedBy s
 
 -- what a call answered, by document 01's values and numbers, and the session it left
@@ -35,6 +38,9 @@ earsOutcome r = record { answer = earsAnswer (r .answer); after = r .session }
 
 abbrev pub closeOutcome : Closing → Outcome Session
 closeOutcome r = record { answer = closeAnswer (r .answer); after = r .session }
+
+abbrev pub bringOutcome : Bringing → Outcome Session
+bringOutcome r = record { answer = bringAnswer (r .answer); after = r .session }
 
 abbrev pub clearOutcome : Session → Outcome Session
 clearOutcome r = record { answer = given []; after = r }

@@ -5,8 +5,9 @@ use mathlib.Core.List.{List}
 use Prim.Native.Nat.{ℕ}
 use lib.ListN.{length}
 use Rattle.mondschein.specs.Network.{Network}
+use Rattle.mondschein.specs.Order.{shortest}
 use Rattle.mondschein.specs.Outcome.{Outcome}
-use Rattle.machine.specs.Machine.{Call, load, ear, ears, close, clear}
+use Rattle.machine.specs.Machine.{Call, load, ear, ears, close, bringOver, clear}
 use Rattle.in_place.specs.Queries.{parentBy, walkedBy}
 use Rattle.zoning.specs.Zoning.{zonedBy}
 use Rattle.memory.specs.declared.Refusal.{Refusal}
@@ -39,7 +40,12 @@ Lists mem l old r mem′ new = (tree3 : List ℕ) → Row tree3 → GivesList (c
 -- close, whatever the order and trees 1 and 2 hold
 abbrev pub Closes : (List ℕ → List ℕ → List ℕ → Memory) → Refusal → (List ℕ → List ℕ → List ℕ → Memory) → Type 0
 Closes mem r mem′ = (order tree1 tree2 : List ℕ) → Row order → Row tree1 → Row tree2
-    → Returns (calledWith (mem order tree1 tree2) close) r (mem′ order tree1 tree2)
+    → Returns (calledWith (mem order tree1 tree2) (close shortest)) r (mem′ order tree1 tree2)
+
+-- bringing over, whatever the used links, the order and trees 1 and 2 hold
+abbrev pub BringsOver : (List ℕ → List ℕ → List ℕ → List ℕ → Memory) → Refusal → (List ℕ → List ℕ → List ℕ → List ℕ → Memory) → Type 0
+BringsOver mem r mem′ = (used order tree1 tree2 : List ℕ) → length used ≡ 4096 → Row order → Row tree1 → Row tree2
+    → Returns (calledWith (mem used order tree1 tree2) bringOver) r (mem′ used order tree1 tree2)
 
 -- parent and walk, whatever the arrays beside the trees hold; the output is the entry, and the count of switches written
 abbrev pub Tells : (List ℕ → List ℕ → List ℕ → List ℕ → Memory) → ℕ → ℕ → ℕ → Refusal → ℕ → Type 0

@@ -1,5 +1,6 @@
 // The calls of a session for C, over the numbers and the arrays of struct threeways_session (include/threeways.h), lent one by one.
 // Each is the call in place, for any contents of that memory; arrays of other lengths than the struct's are refused with 255.
+use bringing::BroughtOver;
 use closing::Close;
 use judge::Ear;
 use memory::CLOSED;
@@ -15,7 +16,7 @@ use walks::Walk;
 use zoning::Zoned;
 ghost use Rattle.network.specs.Load.{networkOf};
 ghost use Rattle.memory.specs.Memory.{numbersBy, memoryBy};
-ghost use Rattle.threeways_c.specs.Calls.{Clears, Loads, Offers, Lists, Closes, Tells, WritesWalk, WritesZones};
+ghost use Rattle.threeways_c.specs.Calls.{Clears, Loads, Offers, Lists, Closes, BringsOver, Tells, WritesWalk, WritesZones};
 
 // Clears the session: always succeeds.
 #[no_mangle]
@@ -324,6 +325,45 @@ pub extern "C" fn threeways_close_in(
                 place: 0,
             }
         }
+    }
+}
+
+// Brings a closed session over: tree 3 as close sets it today. 19 on an empty session, 21 on an open one.
+#[no_mangle]
+pub extern "C" fn threeways_bring_over_in(
+    stage: u16,
+    n: u16,
+    m: u16,
+    root: u16,
+    first: u16,
+    last: u16,
+    longs: u16,
+    born: u16,
+    links: &[u16],
+    births: &[u16],
+    tree3: &mut [u16],
+) -> Refusal
+    ensures { λ r. ⌜ BringsOver
+        (λ used order tree1 tree2. memoryBy (numbersBy stage n m root first last longs born)
+        (now (links .entry)) used (now (births .entry)) order tree1 tree2 (now (tree3 .entry)))
+        r
+        (λ used order tree1 tree2. memoryBy (numbersBy stage n m root first last longs born)
+        (now (links .exit)) used (now (births .exit)) order tree1 tree2 (now (tree3 .exit))) ⌝ }
+{
+    if memory::wrong_lengths(links.len(), MARKS, births.len(), ROW, ROW, ROW, tree3.len()) {
+        return Refusal {
+            number: LENGTHS,
+            place: 0,
+        };
+    }
+    let st = memory::state_of(stage, n, m, root, first, last, longs, born);
+    let answer = bringing::bring_over(st, links, births, tree3);
+    match answer {
+        BroughtOver::Refused(number, place) => Refusal { number, place },
+        BroughtOver::Done => Refusal {
+            number: 0,
+            place: 0,
+        },
     }
 }
 

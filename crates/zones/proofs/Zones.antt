@@ -7,7 +7,7 @@ use Prim.Native.Nat.{ℕ, _≤_, _<_}
 use native.Mathlib.Omega.{arith}
 use lib.Dec.{eqb}
 use Rattle.mondschein.specs.Network.{count, Network, at, size, Adjacent, Proper, Ears, born, birth, used, longBirth}
-use Rattle.mondschein.specs.Order.{order, parent1, parent2, parent3By}
+use Rattle.mondschein.specs.Order.{order, parent1, parent2, lowest, parent3Of}
 use Rattle.mondschein.proofs.Logic.{less?, trichotomy}
 use Rattle.mondschein.proofs.Search.{count-ext}
 use Rattle.mondschein.proofs.Lists.{holds-at, holds-in}
@@ -44,7 +44,7 @@ module _ (net : Network) (proper : Proper net) (es : Ears) (acc : Passing net es
         (⊎-elim (λ g. absurd (omega (arith, births-lt y x m l g))) (λ g. g))
         (trichotomy (birth es x) (birth es y))
 
-    ranked : Ranked net (order es) b (parent1 net es) (parent2 net es) (parent3By net (birth es))
+    ranked : Ranked net (order es) b (parent1 net es) (parent2 net es) (parent3Of net (birth es) lowest)
     ranked =
         record {
           simple = order-simple net es acc;
@@ -75,7 +75,7 @@ module _ (net : Network) (proper : Proper net) (es : Ears) (acc : Passing net es
 
 pub zones : Zones
 zones net es proper M b same n₁ n₂ n₃ S =
-    zoned net (order es) b (parent1 net es) (parent2 net es) (parent3By net (birth es))
+    zoned net (order es) b (parent1 net es) (parent2 net es) (parent3Of net (birth es) lowest)
     (ranked net proper es (complete net proper es M) (complete-used net proper es M) b same) n₁ n₂ n₃ S
 
 -- zones that agree below N

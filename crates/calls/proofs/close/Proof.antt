@@ -1,6 +1,7 @@
 use mathlib.Core.Path.{ap, _∙_}
 use mathlib.Core.List.{List, []}
 use Prim.Native.Nat.{ℕ}
+use Rattle.mondschein.specs.Order.{shortest}
 use Rattle.mondschein.specs.Outcome.{Outcome}
 use Rattle.closing.specs.Closing.{closeAnswer}
 use Rattle.in_place.specs.declared.Session.{Session}
@@ -41,7 +42,7 @@ returns c =
     let at-close = at-reply .before .before .before .before .before in
     let start = at-close .before .before .before .before .before .before .before in
     let a = start .args in
-    let m = ap (λ (o : Outcome Session). o .after .m) (at-close .close .ensures [] [] []) ∙ closed-m (held start [] [] []) in (
+    let m = ap (λ (o : Outcome Session). o .after .m) (at-close .close .ensures [] [] []) ∙ closed-m shortest (held start [] [] []) in (
       λ order tree1 tree2.
           replied-call (a .r) (λ vs. closed) _ _ _ (closeAnswer (at-close .close .result .answer)) _ (c .replied .ensures) (at-close .close .ensures order tree1 tree2)
           (at-reply .reply-to-close .ensures) .0,

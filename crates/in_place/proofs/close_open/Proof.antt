@@ -51,7 +51,7 @@ check-used-requires c κs =
     let start = before-least at-least in
     let a = start .args in
     let y : length (take (at-least .least .result) (a .links .now)) ≤ 8193 =
-    omega (arith, at-least .least .ensures, table-whole (a .links .now) (a .st .m) (at-least .least .ensures), start .pre) in
+    omega (arith, at-least .least .ensures, table-whole (a .links .now) (a .st .m) (at-least .least .ensures), start .pre .links) in
     y
 
 enum-known-answer : tie.Need-enum-known-answer
@@ -64,7 +64,13 @@ enum-told : tie.Need-enum-told
 enum-told c = search needs
 
 set-tree3-requires : tie.Need-set-tree3-requires
-set-tree3-requires c κs = search needs
+set-tree3-requires c κs =
+    let at-least = c .before .before .before .before .before in
+    let start = before-least at-least in
+    let a = start .args in
+    let y : length (take (at-least .least .result) (a .links .now)) ≤ 8193 =
+    omega (arith, at-least .least .ensures, table-whole (a .links .now) (a .st .m) (at-least .least .ensures), start .pre .links) in
+    (start .pre .tree3, start .pre .births, y)
 
 closed-requires : tie.Need-closed-requires
 closed-requires c κs = search needs

@@ -61,7 +61,8 @@ enum-told-2 c = search needs
 close-requires : tie.Need-close-requires
 close-requires c κs =
     let start = before-close (c .before .before .before .before .before .before) in
-    (start .pre .0, start .pre .1 .links)
+    let k = start .pre .1 in
+    (start .pre .0, record { links = k .links; births = k .births; tree3 = k .tree3 })
 
 enum-told-3 : tie.Need-enum-told-3
 enum-told-3 c = search needs

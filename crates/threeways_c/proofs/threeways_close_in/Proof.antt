@@ -3,6 +3,7 @@ use mathlib.Core.Bool.{false}
 use mathlib.Core.List.{List}
 use Prim.Native.Nat.{ℕ}
 use lib.ListN.{length}
+use Rattle.mondschein.specs.Order.{shortest}
 use Rattle.closing.specs.declared.Close.{Close}
 use Rattle.closing.specs.Closing.{closeAnswer}
 use Rattle.in_place.specs.declared.Session.{Session}
@@ -45,12 +46,12 @@ after c order tree1 tree2 =
     sessionIn (c .close .result .state) (a .links .now) (a .used .now) (a .births .now) order tree1 tree2 (c .close .last .1 .1 .1 .1 .0)
 
 answered : (c : tie.After-close) (order tree1 tree2 : List ℕ) (x : Close) → c .close .result .answer ≡ x
-    → record { answer = closeAnswer x; after = after c order tree1 tree2 } ≡ closedBy (sessionAt (held (before-close c) order tree1 tree2))
+    → record { answer = closeAnswer x; after = after c order tree1 tree2 } ≡ closedBy shortest (sessionAt (held (before-close c) order tree1 tree2))
 answered c order tree1 tree2 x q =
     let a = before-close c .args in
     ap (λ (y : Close). record { answer = closeAnswer y; after = after c order tree1 tree2 }) (sym q)
     ∙ c .close .ensures order tree1 tree2
-    ∙ ap (λ (st : State). closedBy (sessionIn st (a .links .now) (a .used .now) (a .births .now) order tree1 tree2 (a .tree3 .now))) (c .before .before .state-of .ensures)
+    ∙ ap (λ (st : State). closedBy shortest (sessionIn st (a .links .now) (a .used .now) (a .births .now) order tree1 tree2 (a .tree3 .now))) (c .before .before .state-of .ensures)
 
 wrong-lengths-requires : tie.Need-wrong-lengths-requires
 wrong-lengths-requires c κs = search needs
@@ -63,7 +64,7 @@ state-of-requires : tie.Need-state-of-requires
 state-of-requires c κs = search needs
 
 close-requires : tie.Need-close-requires
-close-requires c κs = right _ _ _ _ _ _ _ (right-lengths (c .before)) .0
+close-requires c κs = let (l, u, b, o, p, q, t) = right _ _ _ _ _ _ _ (right-lengths (c .before)) in record { links = l; births = b; tree3 = t }
 
 enum-known-answer : tie.Need-enum-known-answer
 enum-known-answer c = search needs
@@ -81,7 +82,7 @@ returns-2 c =
     let at-close = at-answer .before .before .before .before in
     λ order tree1 tree2 o p q.
     lengths-right _ _ 0 (lengths-close _ _ _ _ _ _ _ o p q ∙ right-lengths (at-close .before .before))
-    (refusing-call (held (before-close at-close) order tree1 tree2) _ (after at-close order tree1 tree2) 0 (close-leaves _)
+    (refusing-call (held (before-close at-close) order tree1 tree2) _ (after at-close order tree1 tree2) 0 (close-leaves shortest _)
     (answered at-close order tree1 tree2 _ (at-answer .answer .given .1)) refl)
     .returns
 

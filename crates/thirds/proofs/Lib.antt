@@ -1,0 +1,3 @@
+pub mod Tree3
+pub mod Chaining
+pub mod Following

@@ -1,0 +1,3 @@
+pub mod Tree3
+pub mod Chains
+pub mod Nearing
