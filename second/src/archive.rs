@@ -1,4 +1,4 @@
-//! The static archive of the first program as its header for C declares it: a session's memory, and the eight functions.
+//! The static archive of the first program as its header for C declares it: a session's memory, and the nine functions.
 //! `Session::parts` lends what the header's wrappers lend; the arrays of other `Parts` may have any length.
 
 use std::ptr::NonNull;
@@ -107,6 +107,14 @@ extern "C" {
         first: u16, last: u16, longs: u16, born: u16,
         links: In<u16>, links_count: usize,
         used: In<u8>, used_count: usize,
+        births: In<u16>, births_count: usize,
+        tree3: Out<u16>, tree3_count: usize,
+    ) -> Refusal;
+
+    fn threeways_bring_over_in(
+        stage: u16, n: u16, m: u16, root: u16,
+        first: u16, last: u16, longs: u16, born: u16,
+        links: In<u16>, links_count: usize,
         births: In<u16>, births_count: usize,
         tree3: Out<u16>, tree3_count: usize,
     ) -> Refusal;
@@ -238,6 +246,10 @@ impl Parts<'_> {
             [mut, val, val, val, val, val, val, val],
             [links, used, births, tree3]
         )
+    }
+
+    pub fn bring_over(&mut self) -> Refusal {
+        call!(threeways_bring_over_in, self, [val, val, val, val, val, val, val, val], [links, births, tree3])
     }
 
     pub fn parent(&self, switch: u16, tree: u16, entry: &mut u16) -> Refusal {

@@ -125,7 +125,7 @@ pub fn summary(counts: &Counts) -> String {
     format!(
         "equal: {} scripts, {} lines, {} opened, {} ears taken, {} closed, {} cleared, {} unread; \
          empty ears: {}; crossed ears: {}; {} lists judged by Definition 9 ({} accepted); \
-         {} walks, three walks of {} switches and all of {} sites checked; refusals (number:times/places) {}",
+         {} walks, three walks of {} switches and all of {} sites checked; third walks: {}; refusals (number:times/places) {}",
         counts.scripts,
         counts.lines,
         counts.opened,
@@ -140,6 +140,7 @@ pub fn summary(counts: &Counts) -> String {
         counts.walks,
         counts.switches_checked,
         counts.sites_checked,
+        counts.third_walks.told(),
         refusals_told(&counts.refusals)
     )
 }

@@ -31,6 +31,28 @@ pub fn all_joined(switches: u16) -> Site {
     Site { switches, root: 0, first: 1, last: switches - 1, links }
 }
 
+/// Every choice of root, first and last that makes the site a network.
+pub fn named(site: &Site) -> Vec<Site> {
+    let all = || 0..site.switches;
+    let triples = all().flat_map(|root| all().flat_map(move |first| all().map(move |last| (root, first, last))));
+    let sites = triples.map(|(root, first, last)| Site { root, first, last, ..site.clone() });
+    sites.filter(|site| Network::load(site).is_ok()).collect()
+}
+
+/// Every network of so many switches with root 0, first 1 and the highest as last.
+pub fn every_network(switches: u16) -> Vec<Site> {
+    let all = all_joined(switches);
+    let some = |set: u32| (0..all.links.len()).filter(|at| set >> at & 1 == 1).map(|at| all.links[at]).collect();
+    let sites = (0..1 << all.links.len()).map(|set| Site { links: some(set), ..all.clone() });
+    sites.filter(|site| Network::load(site).is_ok()).collect()
+}
+
+/// Two triangles, 0 1 2 and 3 4 5, and three links between them.
+pub fn prism() -> Site {
+    let links = vec![(0, 1), (1, 2), (2, 0), (3, 4), (4, 5), (5, 3), (0, 3), (1, 4), (2, 5)];
+    Site { switches: 6, root: 0, first: 1, last: 3, links }
+}
+
 /// The judge of a site that is a network.
 pub fn judge_of(site: &Site) -> Judge {
     Judge::new(Network::load(site).expect("the site is a network"), Plant::Nothing)
@@ -144,7 +166,7 @@ impl Search<'_> {
     }
 }
 
-/// The lines that offer one list, close, ask two walks and clear.
+/// The lines that offer one list, close, ask three walks and clear: the third one of first, since last has but one way.
 pub fn lines_for(site: &Site, list: &[Vec<u16>]) -> String {
     let Site { switches, root, first, last, links } = site;
     let mut lines = format!("(net {switches} (root {root}) (first {first}) (last {last}))\n");
@@ -155,5 +177,5 @@ pub fn lines_for(site: &Site, list: &[Vec<u16>]) -> String {
     for ear in list {
         lines += &(ear_line(ear) + "\n");
     }
-    lines + &format!("(close)\n(walk {last} 1)\n(walk {last} 2)\n(clear)\n")
+    lines + &format!("(close)\n(walk {last} 1)\n(walk {last} 2)\n(walk {first} 3)\n(clear)\n")
 }

@@ -4,9 +4,10 @@
 use std::collections::BTreeMap;
 
 use crate::brute;
+use crate::later::Later;
 use crate::lines::{read_form, Form, LINES, LINE_BYTES};
 use crate::network::{Site, MAX_LINKS};
-use crate::seen::{CrossedEars, EmptyEars, Seen};
+use crate::seen::{CrossedEars, EmptyEars, Seen, ThirdWalks};
 
 /// Networks of up to this many switches are judged by brute force.
 pub const SMALL: u16 = 10;
@@ -24,6 +25,7 @@ pub struct Counts {
     pub cleared: usize,
     pub unread: usize,
     pub walks: usize,
+    pub third_walks: ThirdWalks,
     /// Lists judged by Definition 9 at a `(close)`, and how many of them it accepts.
     pub lists_judged: usize,
     pub lists_accepted: usize,
@@ -35,9 +37,9 @@ pub struct Counts {
 }
 
 impl Counts {
-    /// The ears that were never seen.
+    /// The ears and walks that were never seen.
     pub fn missing(&self) -> Vec<String> {
-        [self.empty_ears.missing(), self.crossed_ears.missing()].concat()
+        [self.empty_ears.missing(), self.crossed_ears.missing(), self.third_walks.missing()].concat()
     }
 }
 
@@ -263,9 +265,10 @@ fn check_walk(
 
 /// Demand 3 on the walks printed for a closed session.
 fn check_walks(loaded: Option<Loaded>, counts: &mut Counts) -> Result<(), String> {
-    let Some(Loaded { site, walks, .. }) = loaded else {
+    let Some(Loaded { site, accepted, walks, .. }) = loaded else {
         return Ok(());
     };
+    check_third_walks(&site, &accepted, &walks, counts)?;
     for s in 0..site.switches {
         let three = [1, 2, 3].map(|tree| walks.get(&(s, tree)).map(Vec::as_slice));
         if let [Some(one), Some(two), Some(three)] = three {
@@ -295,6 +298,36 @@ fn check_walks(loaded: Option<Loaded>, counts: &mut Counts) -> Result<(), String
         if s != site.root && walk[1..] != walks[&(entry(s, tree), tree)] {
             return Err(format!("walk {s} {tree} is not followed by the walk of its parent"));
         }
+    }
+    Ok(())
+}
+
+/// Document 02, Note 6, on the third walks printed: each is the one that a search finds, and no longer than it was before
+/// the note. Where all are printed, they follow the rule by themselves.
+fn check_third_walks(
+    site: &Site,
+    accepted: &[Vec<u16>],
+    walks: &BTreeMap<(u16, u16), Vec<u16>>,
+    counts: &mut Counts,
+) -> Result<(), String> {
+    let thirds: Vec<(u16, &[u16])> =
+        walks.iter().filter(|((_, tree), _)| *tree == 3).map(|((s, _), walk)| (*s, &walk[..])).collect();
+    if thirds.is_empty() {
+        return Ok(());
+    }
+    let later = Later::of(site, accepted).ok_or("closed with a switch in no ear")?;
+    for &(s, walk) in &thirds {
+        later.check_walk(s, walk)?;
+        let before = later.lowest_walk(s).ok_or(format!("the walk of {s} by the lowest number does not end"))?;
+        if walk.len() > before.len() || walk.len() == before.len() && walk != before {
+            return Err(format!("the third walk of {s} is {walk:?}, by the lowest number {before:?}"));
+        }
+        if s != site.root && s != site.last {
+            counts.third_walks.add(walk.len(), before.len(), later.nearest(s).len() > 1);
+        }
+    }
+    if thirds.len() == site.switches as usize {
+        later.check_rule(&|s| thirds[s as usize].1)?;
     }
     Ok(())
 }

@@ -3,10 +3,10 @@
 //! The judge and the dialogue:
 //! `lines` reads a line, `dialogue` answers a whole input, `session` is the
 //! machine of three stages, `network` has the checks of loading, `judge` the
-//! checks of ears, `order`, `tables` and `zones` what a closed list gives.
+//! checks of ears, `order`, `tables`, `thirds` and `zones` what a closed list gives.
 //!
 //! What checks them:
-//! `brute` has Definition 9, demand 3 and zones over whole lists, `follow` holds an
+//! `brute` has Definition 9, demand 3 and zones over whole lists, `later` third walks by search, `follow` holds an
 //! output against them, `seen` counts what has to be seen, `random`, `plan`, `damage` and `script` make inputs,
 //! `compare` and `shrink` find a difference and make it small.
 //!
@@ -24,6 +24,7 @@ pub mod dialogue;
 pub mod every;
 pub mod follow;
 pub mod judge;
+pub mod later;
 pub mod lines;
 pub mod network;
 pub mod order;
@@ -34,7 +35,10 @@ pub mod seen;
 pub mod session;
 pub mod shrink;
 pub mod tables;
+pub mod thirds;
 pub mod zones;
+
+use thirds::Rule;
 
 /// A refusal is a number and a place (document 01, 'Refusals from the input').
 #[derive(Clone, Copy, Debug, PartialEq, Eq)]
@@ -68,6 +72,10 @@ pub enum Plant {
     WrongSizes,
     /// A slice too short for the zones is told before wrong sizes.
     WrongRoom,
+    /// Tree 3 has the lowest numbers, as before document 02, Note 6.
+    WrongRule,
+    /// Tree 3 has the highest number among the neighbours with the shortest third walk.
+    WrongTie,
 }
 
 impl Plant {
@@ -81,7 +89,18 @@ impl Plant {
             5 => Some(Plant::WrongOrder),
             6 => Some(Plant::WrongSizes),
             7 => Some(Plant::WrongRoom),
+            8 => Some(Plant::WrongRule),
+            9 => Some(Plant::WrongTie),
             _ => None,
+        }
+    }
+
+    /// How tree 3 is set.
+    pub fn rule(self) -> Rule {
+        match self {
+            Plant::WrongRule => Rule::Lowest,
+            Plant::WrongTie => Rule::ShortestHighest,
+            _ => Rule::Shortest,
         }
     }
 }

@@ -16,10 +16,11 @@ pub fn script(seed: u64, index: u64) -> Vec<u8> {
     let random = &mut random;
     let mut out = Script::default();
     match random.below(1000) {
-        0..300 => several(random, &mut out, 3, |random, out| {
+        0..270 => several(random, &mut out, 3, |random, out| {
             let switches = random.within(4, 8);
             planned(random, out, switches, 35);
         }),
+        270..300 => several(random, &mut out, 3, wandering),
         300..450 => several(random, &mut out, 3, tried_list),
         450..550 => several(random, &mut out, 3, mixed_list),
         550..650 => several(random, &mut out, 6, damaged_site),
@@ -152,6 +153,19 @@ fn site_lines(random: &mut Random, out: &mut Script, site: &Site) {
 /// A plan offered whole, with damaged ears and other calls in between.
 fn planned(random: &mut Random, out: &mut Script, switches: usize, noise: usize) {
     let plan = Plan::random(random, switches);
+    offered(random, out, &plan, noise);
+}
+
+/// Switches numbered by their birth, most in ears of their own: by the lowest number, third walks go through many.
+fn wandering(random: &mut Random, out: &mut Script) {
+    let switches = random.within(6, 60);
+    let longest = random.within(1, 2);
+    let shape = Shape { first_ear: 3, longest, tidy: true, ..Shape::random(random, switches) };
+    let plan = Plan::of(&shape, random);
+    offered(random, out, &plan, 5);
+}
+
+fn offered(random: &mut Random, out: &mut Script, plan: &Plan, noise: usize) {
     site_lines(random, out, &plan.site);
     out.empty_ears(random, 5);
     out.open(&plan.site);
@@ -164,7 +178,7 @@ fn planned(random: &mut Random, out: &mut Script, switches: usize, noise: usize)
             _ => 90,
         };
         while random.chance(noise_here) {
-            noisy_call(random, out, &plan, at);
+            noisy_call(random, out, plan, at);
         }
         if at == drop {
             continue;
@@ -172,14 +186,14 @@ fn planned(random: &mut Random, out: &mut Script, switches: usize, noise: usize)
         out.ear(ear);
     }
     while random.chance(noise) {
-        noisy_call(random, out, &plan, plan.ears.len());
+        noisy_call(random, out, plan, plan.ears.len());
     }
     out.empty_ears(random, 20);
     out.close();
     out.empty_ears(random, 5);
-    walks(random, out, switches);
+    walks(random, out, plan.site.switches.into());
     if random.chance(30) {
-        after_close(random, out, &plan);
+        after_close(random, out, plan);
     }
 }
 

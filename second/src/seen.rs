@@ -1,9 +1,10 @@
 //! What the comparisons have to see, by kind: empty ears (document 02, Note 2) by their answer, crossed ears, whose
-//! answer document 02, Note 3, changed, by what else is wrong with them, and zones (Note 4) by their answer.
+//! answer document 02, Note 3, changed, by what else is wrong with them, zones (Note 4) by their answer, and of Note 6 third
+//! walks beside those before the note, and bringing over by its answer.
 
 use std::collections::BTreeMap;
 
-/// Ears or zones counted by kind.
+/// Ears, zones or walks counted by kind.
 pub trait Seen {
     /// What is counted.
     const WHAT: &'static str;
@@ -90,6 +91,35 @@ impl Seen for CrossedEars {
     }
 }
 
+/// Third walks beside those by the lowest number. A walk that is as long as that one is the same: its first switch but
+/// one is the lowest of all later-born neighbours, and so of those with the shortest walks.
+#[derive(Clone, Debug, Default)]
+pub struct ThirdWalks {
+    shorter: usize,
+    same: usize,
+    tied: usize,
+}
+
+impl ThirdWalks {
+    /// Counts a walk by its length and that of the one before the note; `tied` where several neighbours are as near.
+    pub fn add(&mut self, length: usize, before: usize, tied: bool) {
+        *if length < before { &mut self.shorter } else { &mut self.same } += 1;
+        self.tied += usize::from(tied);
+    }
+}
+
+impl Seen for ThirdWalks {
+    const WHAT: &'static str = "a third walk";
+
+    fn times(&self) -> Vec<(&'static str, usize)> {
+        vec![
+            ("shorter than by the lowest number", self.shorter),
+            ("the same as by it", self.same),
+            ("by the lowest of several as short", self.tied),
+        ]
+    }
+}
+
 /// Calls for zones. Wrong sizes are counted again where their sum wraps to N, and where the slice is too short besides.
 #[derive(Clone, Debug, Default)]
 pub struct Zones {
@@ -129,6 +159,40 @@ impl Seen for Zones {
             ("refused 24", refused(24)),
             ("refused 24 for a sum that wraps", self.wrapped),
             ("refused 24 in a slice too short", self.too_short),
+        ]
+    }
+}
+
+/// Calls that bring over, by their answer.
+#[derive(Clone, Debug, Default)]
+pub struct BroughtOver {
+    changed: usize,
+    same: usize,
+    /// By number.
+    refused: BTreeMap<u8, usize>,
+}
+
+impl BroughtOver {
+    /// Counts a call by whether it changed tree 3, or by the number of its refusal.
+    pub fn add(&mut self, answer: Result<bool, u8>) {
+        *match answer {
+            Ok(true) => &mut self.changed,
+            Ok(false) => &mut self.same,
+            Err(number) => self.refused.entry(number).or_default(),
+        } += 1;
+    }
+}
+
+impl Seen for BroughtOver {
+    const WHAT: &'static str = "bringing over";
+
+    fn times(&self) -> Vec<(&'static str, usize)> {
+        let refused = |number| self.refused.get(&number).copied().unwrap_or(0);
+        vec![
+            ("with another tree 3", self.changed),
+            ("with the same", self.same),
+            ("refused 19", refused(19)),
+            ("refused 21", refused(21)),
         ]
     }
 }

@@ -1,10 +1,12 @@
 //! The session of document 01: empty, open or closed, and the refusals from
 //! the state (19 to 22), which come before all others. Of document 02 it has Note 1, the whole list in one call,
-//! Note 2: after the first ear an empty ear takes the leftover links, and Note 4, the zones.
+//! Note 2: after the first ear an empty ear takes the leftover links, Note 4, the zones, and Note 6: tree 3 by the
+//! shortest third walk, and bringing over a session that was closed before it.
 
 use crate::judge::Judge;
 use crate::network::{Network, Site};
 use crate::tables::Tables;
+use crate::thirds::Rule;
 use crate::zones::{are_sizes, write_zones};
 use crate::{refuse, Plant, Refusal};
 
@@ -65,9 +67,33 @@ impl Session {
 
     /// Closing succeeds when no link is left unused.
     pub fn close(&mut self) -> Result<(), Refusal> {
-        let judge = self.open()?;
-        judge.check_close()?;
-        *self = Session::Closed(Tables::of(judge));
+        let rule = self.open()?.plant().rule();
+        self.close_by(rule)
+    }
+
+    /// The same as it was before document 02, Note 6: tree 3 has the lowest numbers.
+    pub fn close_as_before(&mut self) -> Result<(), Refusal> {
+        self.close_by(Rule::Lowest)
+    }
+
+    fn close_by(&mut self, rule: Rule) -> Result<(), Refusal> {
+        self.open()?.check_close()?;
+        if let Session::Open(judge) = std::mem::take(self) {
+            *self = Session::Closed(Tables::of(judge, rule));
+        }
+        Ok(())
+    }
+
+    /// Brings over a session that was closed as before: tree 3 is as close sets it now, and nothing else changes.
+    pub fn bring_over(&mut self) -> Result<(), Refusal> {
+        let tables = self.tables_mut()?;
+        tables.set_thirds(tables.plant.rule());
+        Ok(())
+    }
+
+    /// Sets tree 3 of a closed session as it was before Note 6.
+    pub fn set_back(&mut self) -> Result<(), Refusal> {
+        self.tables_mut()?.set_thirds(Rule::Lowest);
         Ok(())
     }
 
@@ -133,7 +159,15 @@ impl Session {
     }
 
     /// The tables, when closed.
-    fn tables(&self) -> Result<&Tables, Refusal> {
+    pub fn tables(&self) -> Result<&Tables, Refusal> {
+        match self {
+            Session::Empty => refuse(19, 0),
+            Session::Open(_) => refuse(21, 0),
+            Session::Closed(tables) => Ok(tables),
+        }
+    }
+
+    fn tables_mut(&mut self) -> Result<&mut Tables, Refusal> {
         match self {
             Session::Empty => refuse(19, 0),
             Session::Open(_) => refuse(21, 0),

@@ -1,14 +1,19 @@
 //! The order, the three parent tables and the walks of a closed session (document 01,
-//! 'Order, tables and walks'), and its births, from which zones are found.
+//! 'Order, tables and walks'), and its births, from which zones are found. Network and long ears stay: from them tree 3
+//! is set by either rule.
 
 use crate::judge::Judge;
+use crate::network::Network;
 use crate::order::Order;
+use crate::thirds::Rule;
 use crate::Plant;
 
 #[derive(Debug)]
 pub struct Tables {
     pub switches: usize,
     pub root: u16,
+    network: Network,
+    long_ears: Vec<Vec<u16>>,
     /// The switches in their order.
     pub order: Vec<u16>,
     /// For each switch the number of the long ear that it was born in.
@@ -20,7 +25,7 @@ pub struct Tables {
 
 impl Tables {
     /// The tables of a judge that has no link left unused.
-    pub fn of(judge: &Judge) -> Tables {
+    pub fn of(judge: Judge, rule: Rule) -> Tables {
         let n = judge.network.switches;
         let root = judge.network.root;
         let mut towards_a = vec![root; n];
@@ -56,15 +61,18 @@ impl Tables {
             }
         }
 
-        let later = (0..n as u16).map(|s| third_parent(judge, s)).collect();
-        Tables {
-            switches: n,
-            root,
-            order: order.to_list(),
-            births: judge.births(),
-            parents: [towards_a, towards_b, later],
-            plant: judge.plant(),
-        }
+        let (births, plant) = (judge.births(), judge.plant());
+        let Judge { network, long_ears, .. } = judge;
+        let order = order.to_list();
+        let parents = [towards_a, towards_b, vec![root; n]];
+        let mut tables = Tables { switches: n, root, network, long_ears, order, births, parents, plant };
+        tables.set_thirds(rule);
+        tables
+    }
+
+    /// Sets tree 3 by a rule; nothing else changes.
+    pub fn set_thirds(&mut self, rule: Rule) {
+        rule.write(&self.network, &self.births, &self.long_ears, &mut self.parents[2]);
     }
 
     /// The parent of a switch below N in a tree 1 to 3.
@@ -100,16 +108,12 @@ impl Tables {
         }
         Some(count)
     }
-}
 
-/// Tree 3: last has parent root; any other switch has the lowest-numbered of
-/// its neighbours born in a later ear. Neighbours are sorted by number.
-fn third_parent(judge: &Judge, switch: u16) -> u16 {
-    let network = &judge.network;
-    if switch == network.root || switch == network.last {
-        return network.root;
+    /// How many switches the longest third walk has, and all of them but the root's on average.
+    pub fn third_lengths(&self) -> (usize, f64) {
+        let others = (0..self.switches as u16).filter(|&s| s != self.root);
+        let lengths: Vec<usize> = others.map(|s| self.walk(s, 3).len()).collect();
+        let sum: usize = lengths.iter().sum();
+        (lengths.iter().copied().max().unwrap_or(1), sum as f64 / lengths.len() as f64)
     }
-    let birth = judge.birth[switch as usize];
-    let later = network.neighbours(switch).iter().find(|other| judge.birth[other.switch as usize] > birth);
-    later.expect("check 16 left an unborn neighbour").switch
 }

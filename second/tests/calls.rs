@@ -39,13 +39,13 @@ mod with_the_archive {
         let counts = run(1, 100_000, Plant::Nothing, Fault::Nothing).unwrap_or_else(|found| panic!("{found:?}"));
         assert_eq!(counts.calls, 100_000);
         assert_eq!(counts.missing(), [""; 0]);
-        let names = ["clear", "close", "ear", "ears", "load", "parent", "walk", "zones"];
+        let names = ["bring over", "clear", "close", "ear", "ears", "load", "parent", "walk", "zones"];
         assert!(counts.granted.keys().eq(&names), "{counts:?}");
         assert!(counts.unknown_granted.keys().eq(names.iter().filter(|name| **name != "load")), "{counts:?}");
         // Memory that reads as empty is the second program's empty session.
         assert_eq!(counts.unknown_empty_ears.missing(), ["an empty ear refused 19"]);
         assert_eq!(counts.unknown_zones.missing(), ["zones refused 19"]);
-        assert!(counts.stopped > 0 && counts.wrong_lengths > 0, "{counts:?}");
+        assert!(counts.stopped > 0 && counts.wrong_lengths > 0 && counts.set_back > 0, "{counts:?}");
     }
 
     #[test]
@@ -58,6 +58,8 @@ mod with_the_archive {
             (Plant::WrongOrder, Kind::Answer),
             (Plant::WrongSizes, Kind::Answer),
             (Plant::WrongRoom, Kind::Answer),
+            (Plant::WrongRule, Kind::Field),
+            (Plant::WrongTie, Kind::Field),
         ] {
             let Difference { finding, steps, .. } = difference(plant, Fault::Nothing);
             assert_eq!(finding.kind, kind, "{plant:?}: {finding:?}");
@@ -79,6 +81,8 @@ mod with_the_archive {
             (Fault::RestOfZones, Kind::Changed),
             (Fault::Zones, Kind::Answer),
             (Fault::Unwritten, Kind::Copies),
+            (Fault::Third, Kind::Field),
+            (Fault::OtherTree, Kind::Changed),
         ] {
             let finding = difference(Plant::Nothing, fault).finding;
             assert_eq!(finding.kind, kind, "{fault:?}: {finding:?}");
@@ -96,7 +100,7 @@ mod with_the_archive {
             (&["1", "20000", "--plant", "1"], 1),
             (&["1"], 2),
             (&["1", "many"], 2),
-            (&["1", "1000", "--plant", "8"], 2),
+            (&["1", "1000", "--plant", "10"], 2),
         ] {
             let ended = second_calls(arguments);
             assert_eq!(ended.status.code(), Some(status), "{arguments:?}");

@@ -139,6 +139,25 @@ fn plan_with_crossed_ears() {
     assert_eq!(refused, ["(refused 13 0)", "(refused 11 0)"]);
 }
 
+/// The plan of short third walks: that of 2 had 44 switches before document 02, Note 6, and has 8, that of 13 had 33 and
+/// has 9.
+#[test]
+fn plan_with_short_third_walks() {
+    let plan = example("short-thirds");
+    let thirds = |replies: Vec<u8>| -> Vec<String> {
+        let replies = String::from_utf8(replies).unwrap();
+        replies.lines().filter(|line| line.starts_with("(walk") && line.contains(" 3 (")).map(String::from).collect()
+    };
+    let now = thirds(run_bytes(plan.as_bytes(), Plant::Nothing));
+    assert_eq!(now, ["(walk 2 3 (2 4 12 20 28 36 44 0))", "(walk 13 3 (13 14 16 18 20 28 36 44 0))"]);
+    let before = thirds(run_bytes(plan.as_bytes(), Plant::WrongRule));
+    let wandering = |from: u16| {
+        let numbers: Vec<String> = (from..=44).chain([0]).map(|s| s.to_string()).collect();
+        (numbers.len(), format!("(walk {from} 3 ({}))", numbers.join(" ")))
+    };
+    assert_eq!([wandering(2), wandering(13)], [(44, before[0].clone()), (33, before[1].clone())]);
+}
+
 #[test]
 fn limits_of_n() {
     for (n, answer) in [(3, "(refused 1 0)"), (4, "(opened 4 6)"), (1024, "(opened 1024 6)"), (1025, "(refused 1 0)")] {

@@ -26,7 +26,15 @@ fn nothing_is_found_without_a_fault() {
 
 #[test]
 fn each_planted_fault_is_found_and_made_small() {
-    for plant in [Plant::WrongPlace, Plant::WrongParent, Plant::WrongList, Plant::WrongLinks, Plant::WrongOrder] {
+    for plant in [
+        Plant::WrongPlace,
+        Plant::WrongParent,
+        Plant::WrongList,
+        Plant::WrongLinks,
+        Plant::WrongOrder,
+        Plant::WrongRule,
+        Plant::WrongTie,
+    ] {
         let (small, finding) = finding(Plant::Nothing, plant, 200).expect("the fault is found");
         assert_eq!(finding.kind, Kind::OutputsDiffer, "{plant:?}");
         assert!(lines(&small) <= 20, "{plant:?}: {}", String::from_utf8_lossy(&small));
@@ -36,14 +44,17 @@ fn each_planted_fault_is_found_and_made_small() {
 /// When both programs have the same fault, only the definitions find it.
 #[test]
 fn the_papers_find_a_fault_of_both() {
-    for plant in [Plant::WrongParent, Plant::WrongList, Plant::WrongLinks, Plant::WrongOrder] {
+    for plant in
+        [Plant::WrongParent, Plant::WrongList, Plant::WrongLinks, Plant::WrongOrder, Plant::WrongRule, Plant::WrongTie]
+    {
         let (small, finding) = finding(plant, plant, 400).expect("the fault is found");
         assert_eq!(finding.kind, Kind::AgainstThePapers, "{plant:?}");
         assert!(lines(&small) <= 60, "{plant:?}: {}", String::from_utf8_lossy(&small));
     }
 }
 
-/// The scripts of a seed reach every refusal that lines can show, every answer to an empty ear, and both crossed ears.
+/// The scripts of a seed reach every refusal that lines can show, every answer to an empty ear, both crossed ears, and
+/// third walks that document 02, Note 6, made shorter.
 #[test]
 fn every_refusal_is_reached() {
     let second = Program::Second(Plant::Nothing);

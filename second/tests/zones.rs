@@ -9,8 +9,10 @@ use std::collections::BTreeSet;
 #[cfg(archive)]
 use second_reading::archive;
 use second_reading::brute::{are_zones, is_mondschein, written_out};
-use second_reading::every::{all_joined, card_k_site, every_closed_list, every_list, wheel_site, worked_site};
-use second_reading::network::{Network, Site, MAX_SWITCHES};
+use second_reading::every::{
+    all_joined, card_k_site, every_closed_list, every_list, every_network, named, prism, wheel_site, worked_site,
+};
+use second_reading::network::{Site, MAX_SWITCHES};
 use second_reading::plan::{Plan, Shape};
 use second_reading::random::Random;
 use second_reading::session::{list_of, Session};
@@ -68,28 +70,6 @@ fn of_archive(site: &Site, list: &[u16]) -> Box<archive::Session> {
 /// All sizes of 1 or more that add up to N.
 fn all_sizes(n: u16) -> impl Iterator<Item = [u16; 3]> {
     (1..n - 1).flat_map(move |one| (1..n - one).map(move |two| [one, two, n - one - two]))
-}
-
-/// Every choice of root, first and last that makes the site a network.
-fn named(site: &Site) -> Vec<Site> {
-    let all = || 0..site.switches;
-    let triples = all().flat_map(|root| all().flat_map(move |first| all().map(move |last| (root, first, last))));
-    let sites = triples.map(|(root, first, last)| Site { root, first, last, ..site.clone() });
-    sites.filter(|site| Network::load(site).is_ok()).collect()
-}
-
-/// Every network of so many switches with root 0, first 1 and the highest as last.
-fn every_network(switches: u16) -> Vec<Site> {
-    let all = all_joined(switches);
-    let some = |set: u32| (0..all.links.len()).filter(|at| set >> at & 1 == 1).map(|at| all.links[at]).collect();
-    let sites = (0..1 << all.links.len()).map(|set| Site { links: some(set), ..all.clone() });
-    sites.filter(|site| Network::load(site).is_ok()).collect()
-}
-
-/// Two triangles, 0 1 2 and 3 4 5, and three links between them.
-fn prism() -> Site {
-    let links = vec![(0, 1), (1, 2), (2, 0), (3, 4), (4, 5), (5, 3), (0, 3), (1, 4), (2, 5)];
-    Site { switches: 6, root: 0, first: 1, last: 3, links }
 }
 
 /// The long ears of every list that Definition 9 accepts, tried by brute force, are those that are gone through here.

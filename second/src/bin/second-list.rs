@@ -1,12 +1,14 @@
-//! `second-list PLAN` loads the network of a plan, offers its ears as one list, closes, and asks for all walks and for
-//! the zones of some sizes, in functions that a profiler finds by name (`bench/archive`). It prints the count of ears
-//! accepted, and ends with 1 where anything is refused.
+//! `second-list PLAN` loads the network of a plan, offers its ears as one list, closes, brings over, and asks for all
+//! walks and for the zones of some sizes, in functions that a profiler finds by name (`bench/archive`). It prints the
+//! count of ears accepted, then the longest third walk and the average one, and both as they were before document 02,
+//! Note 6; and ends with 1 where anything is refused.
 
 use std::process::ExitCode;
 
 use second_reading::lines::{read_form, Form};
 use second_reading::network::{Site, MAX_SWITCHES};
 use second_reading::session::{list_of, Session};
+use second_reading::tables::Tables;
 use second_reading::{Plant, Refusal};
 
 #[no_mangle]
@@ -19,6 +21,18 @@ pub fn measured_load(session: &mut Session, site: &Site) -> Result<(usize, usize
 #[inline(never)]
 pub fn measured_ears(session: &mut Session, list: &[u16]) -> (usize, Option<Refusal>) {
     session.ears(list)
+}
+
+#[no_mangle]
+#[inline(never)]
+pub fn measured_close(session: &mut Session) -> Result<(), Refusal> {
+    session.close()
+}
+
+#[no_mangle]
+#[inline(never)]
+pub fn measured_bring_over(session: &mut Session) -> Result<(), Refusal> {
+    session.bring_over()
 }
 
 #[no_mangle]
@@ -54,6 +68,11 @@ fn read_plan(plan: &[u8]) -> (Site, Vec<u16>) {
     (Site { links, ..names }, list_of(&ears))
 }
 
+fn third_walks(session: &Session) -> String {
+    let (longest, average) = session.tables().map_or((0, 0.0), Tables::third_lengths);
+    format!("longest {longest}, average {average:.2}")
+}
+
 fn main() -> ExitCode {
     let Some(Ok(plan)) = std::env::args().nth(1).map(std::fs::read) else {
         eprintln!("second-list PLAN");
@@ -64,9 +83,15 @@ fn main() -> ExitCode {
     let loaded = measured_load(&mut session, &site);
     let (accepted, refusal) = measured_ears(&mut session, &list);
     println!("{accepted}");
-    if loaded.is_err() || refusal.is_some() || session.close().is_err() {
+    if loaded.is_err() || refusal.is_some() || measured_close(&mut session).is_err() {
         return ExitCode::FAILURE;
     }
+    let now = third_walks(&session);
+    let before = session.set_back().is_ok().then(|| third_walks(&session));
+    if measured_bring_over(&mut session).is_err() || third_walks(&session) != now {
+        return ExitCode::FAILURE;
+    }
+    println!("third walks: {now}; before: {}", before.unwrap_or_default());
     let mut out = [0; MAX_SWITCHES];
     let mut walks = (1..=3).flat_map(|tree| (0..site.switches).map(move |switch| (switch, tree)));
     let walked = walks.all(|(switch, tree)| measured_walk(&session, switch, tree, &mut out).is_ok());

@@ -17,6 +17,7 @@ pub enum Call {
     /// A list of ears, each preceded by its count of numbers.
     Ears(Vec<u16>),
     Close,
+    BringOver,
     Parent {
         switch: u16,
         tree: u16,
@@ -104,6 +105,7 @@ impl Call {
                 refusal.map_or(Ok(Vec::new()), Err)
             }
             Call::Close => session.close().map(|()| Vec::new()),
+            Call::BringOver => session.bring_over().map(|()| Vec::new()),
             Call::Parent { switch, tree } => session.parent(*switch, *tree).map(|entry| vec![entry]),
             Call::Walk { switch, tree, room } => {
                 let walk = session.walk_within(*switch, *tree, *room);
@@ -131,6 +133,7 @@ impl Call {
             Call::Ear(_) => parts.ear(lent, value),
             Call::Ears(_) => parts.ears(lent, accepted),
             Call::Close => parts.close(),
+            Call::BringOver => parts.bring_over(),
             Call::Parent { switch, tree } => parts.parent(*switch, *tree, value),
             Call::Walk { switch, tree, .. } => parts.walk(*switch, *tree, out, value),
             Call::Zones { sizes, .. } => parts.zones(*sizes, out),
@@ -157,6 +160,7 @@ impl Display for Call {
             Call::Ear(ear) => write!(out, "ear{}", Numbers(ear)),
             Call::Ears(list) => write!(out, "ears{}", Numbers(list)),
             Call::Close => write!(out, "close"),
+            Call::BringOver => write!(out, "bring over"),
             Call::Parent { switch, tree } => write!(out, "parent {switch} {tree}"),
             Call::Walk { switch, tree, room } => write!(out, "walk {switch} {tree} into {room}"),
             Call::Zones { sizes, room } => write!(out, "zones{} into {room}", Numbers(sizes)),

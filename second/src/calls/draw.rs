@@ -84,6 +84,7 @@ impl Draw {
             }
             Session::Open(judge) if self.tries || random.chance(50) => self.tried(random, judge),
             Session::Open(_) => Call::Close,
+            Session::Closed(_) if random.chance(15) => Call::BringOver,
             Session::Closed(_) => query(random, session, self.plan.site.switches),
         })
     }
@@ -130,6 +131,7 @@ impl Draw {
             5 | 6 => Call::Ears(self.stray_list(random, session)),
             7 if random.chance(20) => Call::Ear(Vec::new()),
             7 if random.chance(5) => Call::Ears(empty_ears(random)),
+            8 if matches!(session, Session::Empty) || random.chance(20) => Call::BringOver,
             _ => Call::Ear(self.stray_ear(random, session)),
         }
     }
@@ -202,8 +204,9 @@ impl Draw {
     /// A call on memory that no calls made, most often one for its stage.
     pub fn wild(&mut self, random: &mut Random, memory: &archive::Session) -> Call {
         let kind = match memory.stage {
-            _ if random.chance(15) => random.below(25),
+            _ if random.chance(15) => random.below(27),
             OPEN => random.within(5, 25),
+            CLOSED if random.chance(30) => 26,
             CLOSED => random.within(3, 4),
             _ => random.below(4),
         };
@@ -216,6 +219,7 @@ impl Draw {
             9 | 10 => Call::Ear(self.any_ear(random)),
             11..=14 => Call::Ear(path(random, memory)),
             15..=21 => Call::Ear(self.moved_ears(memory, 1).concat()),
+            26 => Call::BringOver,
             _ => Call::Ears(self.wild_list(random, memory)),
         }
     }

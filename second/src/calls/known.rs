@@ -51,7 +51,7 @@ fn wrong_open(memory: &archive::Session, judge: &Judge) -> Option<&'static str> 
     number.or((memory.births[..] != births).then_some("births")).or((memory.used != used).then_some("used"))
 }
 
-/// Closing leaves all but the stage and tree 3 as they were, so that only these and what was not seen before are held.
+/// Closing and bringing over leave all but the stage and tree 3 as they were, so that only these and what was not seen before are held.
 fn wrong_closed(memory: &archive::Session, tables: &Tables) -> Option<&'static str> {
     if memory.stage != CLOSED {
         return Some("stage");

@@ -14,6 +14,7 @@ pub fn wrong_lengths(random: &mut Random, call: &Call) -> Lengths {
         Call::Clear | Call::Load(..) => &[0, 1, 2, 3, 4, 5, 6],
         Call::Ear(_) | Call::Ears(_) => &[0, 1, 2, 3, 4, 6],
         Call::Close => &[0, 1, 5, 6],
+        Call::BringOver => &[0, 1, 5],
         Call::Parent { .. } | Call::Walk { .. } => &[3, 4, 5],
         Call::Zones { .. } => &[1, 2],
     };

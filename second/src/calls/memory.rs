@@ -1,5 +1,6 @@
 //! What a call may answer and leave on an open or closed session that no calls made: what its memory alone decides.
 //! Numbers past the end of an array read as 0, a table has at most the array's links, and a walk at most N switches.
+//! Tree 3 after close or bringing over is not known there, but nothing else may change.
 //! Zones are 1 to 3 there too, and 3 for a switch that stands nowhere in the order.
 //! A list of ears answers and leaves what its ears do, offered one by one to another session of the same memory.
 
@@ -20,7 +21,8 @@ pub fn may_answer(call: &Call, session: &Session, answer: &Answer) -> bool {
         Call::Ears(list) => return *answer == one_by_one(&mut session.clone(), list),
         Call::Close if is_open => close(session),
         Call::Ear(_) | Call::Close => refuse(22, 0),
-        Call::Parent { .. } | Call::Walk { .. } | Call::Zones { .. } if is_open => refuse(21, 0),
+        Call::BringOver | Call::Parent { .. } | Call::Walk { .. } | Call::Zones { .. } if is_open => refuse(21, 0),
+        Call::BringOver => Ok(Vec::new()),
         Call::Parent { switch, tree } => row(session, *switch, *tree).map(|row| vec![entry(row, *switch)]),
         Call::Walk { switch, tree, room } => walk(session, *switch, *tree, *room),
         Call::Zones { sizes, .. } if !are_sizes(*sizes, session.n.into()) => refuse(24, 0),
@@ -129,7 +131,7 @@ pub fn leaves(call: &Call, before: &Session, after: &Session) -> bool {
             one_by_one(&mut offered, list);
             *after == offered
         }
-        Call::Close => same_network && after.stage == CLOSED && tables(before) == tables(after),
+        Call::Close | Call::BringOver => same_network && after.stage == CLOSED && tables(before) == tables(after),
         Call::Parent { .. } | Call::Walk { .. } | Call::Zones { .. } => before == after,
     }
 }

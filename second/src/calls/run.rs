@@ -11,12 +11,12 @@ use super::side::Fault;
 use super::trial::{Done, Finding, Step, Trial};
 use crate::compare::refusals_told;
 use crate::random::Random;
-use crate::seen::{CrossedEars, EmptyEars, Seen, Zones};
+use crate::seen::{BroughtOver, CrossedEars, EmptyEars, Seen, Zones};
 use crate::session::ears_of;
 use crate::Plant;
 
-/// With so many calls or more, every refusal has to be seen, every answer to an empty ear and to zones, and both
-/// crossed ears.
+/// With so many calls or more, every refusal has to be seen, every answer to an empty ear, to zones and to bringing
+/// over, and both crossed ears.
 const ENOUGH: usize = 100_000;
 
 /// What was seen.
@@ -31,6 +31,9 @@ pub struct Counts {
     pub empty_ears: EmptyEars,
     pub crossed_ears: CrossedEars,
     pub zones: Zones,
+    pub brought_over: BroughtOver,
+    /// Sessions whose tree 3 was set to other entries, those of the lowest numbers.
+    pub set_back: usize,
     /// Lists that were refused at an ear behind accepted ones, and lists with an empty ear accepted.
     pub stopped: usize,
     pub lists_with_empty: usize,
@@ -99,7 +102,11 @@ impl Run {
         let mut until = if random.chance(30) { draw.overwritten_after(random) } else { usize::MAX };
         while until > 0 && !self.is_over() {
             let second = self.trial.second().expect("the second program knows a session that calls made");
+            let is_closed = second.tables().is_ok();
             let Some(call) = draw.next(random, second) else { break };
+            if is_closed && random.chance(8) {
+                self.step(Step::SetBack)?;
+            }
             if random.chance(2) {
                 self.wrong_lengths(random, &call)?;
             }
@@ -180,6 +187,7 @@ fn name(call: &Call) -> &'static str {
         Call::Ear(_) => "ear",
         Call::Ears(_) => "ears",
         Call::Close => "close",
+        Call::BringOver => "bring over",
         Call::Parent { .. } => "parent",
         Call::Walk { .. } => "walk",
         Call::Zones { .. } => "zones",
@@ -189,7 +197,7 @@ fn name(call: &Call) -> &'static str {
 impl Counts {
     fn add(&mut self, step: &Step, done: &Done) {
         match (step, done) {
-            (Step::Call(call), Done::Answered { answer, known, n, leftover, crossed }) => {
+            (Step::Call(call), Done::Answered { answer, known, n, leftover, crossed, brought }) => {
                 self.calls += 1;
                 self.add_answer(call, answer, *known);
                 if let Some(crossed) = crossed {
@@ -199,12 +207,16 @@ impl Counts {
                     let ears = if *known { &mut self.empty_ears } else { &mut self.unknown_empty_ears };
                     ears.add(answer.values.as_ref().map(|_| *leftover).map_err(|refusal| refusal.number.into()));
                 }
+                if let (Call::BringOver, true) = (call, *known) {
+                    self.brought_over.add(answer.values.as_ref().map(|_| *brought).map_err(|refusal| refusal.number));
+                }
                 if let Call::Zones { sizes, room } = call {
                     let zones = if *known { &mut self.zones } else { &mut self.unknown_zones };
                     let refused = answer.values.as_ref().err().map(|refusal| refusal.number.into());
                     zones.add(refused, *sizes, *n, *room);
                 }
             }
+            (_, Done::SetBack(differs)) => self.set_back += usize::from(*differs),
             (_, Done::Lengths) => {
                 self.calls += 1;
                 self.wrong_lengths += 1;
@@ -233,13 +245,14 @@ impl Counts {
         }
     }
 
-    /// The refusals, ears and zones that were never seen although there were calls enough.
+    /// The refusals, ears, zones and bringing over that were never seen although there were calls enough.
     pub fn missing(&self) -> Vec<String> {
         if self.calls < ENOUGH {
             return Vec::new();
         }
         let refusals = (1..=24).filter(|number| !self.refusals.contains_key(number)).map(|number| number.to_string());
-        let kinds = [self.empty_ears.missing(), self.crossed_ears.missing(), self.zones.missing()].concat();
+        let ears = [self.empty_ears.missing(), self.crossed_ears.missing()].concat();
+        let kinds = [ears, self.zones.missing(), self.brought_over.missing()].concat();
         let listed = (self.lists_with_empty == 0).then(|| "an empty ear in a list".to_string());
         refusals.chain(kinds).chain(listed).collect()
     }
@@ -253,7 +266,8 @@ pub fn summary(counts: &Counts) -> String {
     };
     format!(
         "equal: {} calls, {} sessions; {} compared with the second program, granted {}, \
-         refusals (number:times/places) {}, empty ears: {}, crossed ears: {}, zones: {}; \
+         refusals (number:times/places) {}, empty ears: {}, crossed ears: {}, zones: {}, \
+         {} with tree 3 set back to the lowest numbers, brought over: {}; \
          {} overwritten, {} calls on them, granted {}, refusals {}, empty ears: {}, zones: {}; \
          {} lists stopped behind accepted ears, {} with an empty ear accepted; {} calls with arrays of wrong lengths",
         counts.calls,
@@ -264,6 +278,8 @@ pub fn summary(counts: &Counts) -> String {
         counts.empty_ears.told(),
         counts.crossed_ears.told(),
         counts.zones.told(),
+        counts.set_back,
+        counts.brought_over.told(),
         counts.overwritten,
         counts.unknown,
         told(&counts.unknown_granted),

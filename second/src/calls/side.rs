@@ -33,6 +33,10 @@ pub enum Fault {
     Zones,
     /// The zone of switch 0 is left as the slice held it.
     Unwritten,
+    /// Bringing over leaves another entry of tree 3 for switch 0.
+    Third,
+    /// Bringing over changes an entry of tree 2.
+    OtherTree,
 }
 
 /// What stands where the ears accepted are written, before the call: no half of it is 0.
@@ -88,7 +92,7 @@ impl<M: Memory> Side<M> {
         }
         let value = self.value.get()[0];
         Ok(match call {
-            Call::Clear | Call::Ears(_) | Call::Close => Vec::new(),
+            Call::Clear | Call::Ears(_) | Call::Close | Call::BringOver => Vec::new(),
             Call::Load(..) => {
                 let [_, n, m, ..] = self.memory.parts().numbers;
                 vec![*n, *m]
@@ -160,6 +164,8 @@ impl<M: Memory> Side<M> {
                 self.out.lend()[..written].iter_mut().for_each(exchanged);
             }
             (Fault::Unwritten, Call::Zones { .. }) if granted => self.out.lend()[0] = self.value.get()[0],
+            (Fault::Third, Call::BringOver) if granted => self.memory.parts().tree3[0] ^= 1,
+            (Fault::OtherTree, Call::BringOver) if granted => self.memory.parts().tree2[0] ^= 1,
             (Fault::Accepted, Call::Ears(_)) if !granted => self.accepted.lend()[0] += 1,
             (Fault::Order, Call::Ears(_)) if self.accepted.get()[0] > 0 => self.memory.parts().order[1023] ^= 1,
             (Fault::Copy, Call::Ear(_)) if granted && copy => self.memory.parts().tree1[1023] ^= 1,

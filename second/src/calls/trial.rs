@@ -14,6 +14,7 @@ use crate::archive::{self, CLOSED, OPEN};
 use crate::brute;
 use crate::seen::Crossed;
 use crate::session::Session;
+use crate::thirds::Rule;
 use crate::Plant;
 
 /// The most numbers that are lent for writing.
@@ -25,6 +26,8 @@ pub enum Step {
     Call(Call),
     /// The session's memory is overwritten, as the seed says.
     Overwrite(u64),
+    /// Tree 3 of a closed session, in memory and in the second program, is set as before document 02, Note 6.
+    SetBack,
     /// The call is made on a copy of the session with arrays of these lengths.
     Lengths(Call, Lengths),
 }
@@ -61,15 +64,18 @@ impl Finding {
 /// What a step did, for the counts.
 pub enum Done {
     /// `n` is what memory has; `leftover` is the count of links that an empty ear takes where it is granted; `crossed`
-    /// is for a refused ear where the second program knows the session.
+    /// is for a refused ear where the second program knows the session; `brought` where the call changed tree 3.
     Answered {
         answer: Answer,
         known: bool,
         n: u16,
         leftover: usize,
         crossed: Option<Crossed>,
+        brought: bool,
     },
     Overwritten,
+    /// Whether tree 3 was another one.
+    SetBack(bool),
     Lengths,
 }
 
@@ -114,15 +120,17 @@ impl Trial {
             Step::Call(call) => {
                 let known = self.second.is_some();
                 let leftover = if call.is_empty_ear() { with_leftover_taken(&self.before).0 } else { 0 };
-                let n = self.before.n;
+                let (n, tree3) = (self.before.n, self.before.tree3);
                 let answer = self.call(call)?;
                 let crossed = self.crossed(call, &answer);
-                Ok(Done::Answered { answer, known, n, leftover, crossed })
+                let brought = tree3 != self.before.tree3;
+                Ok(Done::Answered { answer, known, n, leftover, crossed, brought })
             }
             Step::Overwrite(seed) => {
                 self.overwrite(*seed);
                 Ok(Done::Overwritten)
             }
+            Step::SetBack => Ok(Done::SetBack(self.set_back())),
             Step::Lengths(call, lengths) => {
                 make_wrong(&self.before, call, *lengths, &self.filler, self.fault)?;
                 Ok(Done::Lengths)
@@ -138,11 +146,29 @@ impl Trial {
         }
     }
 
+    /// Does nothing where the second program knows no closed session. True where tree 3 was another one.
+    fn set_back(&mut self) -> bool {
+        let Some(Session::Closed(tables)) = &mut self.second else {
+            return false;
+        };
+        tables.set_thirds(Rule::Lowest);
+        let row = &mut self.before.tree3[..tables.switches];
+        let lowest: Vec<u16> = (0..tables.switches as u16).map(|s| tables.parent(s, 3)).collect();
+        let differs = *row != lowest;
+        row.copy_from_slice(&lowest);
+        self.set_memory();
+        differs
+    }
+
+    fn set_memory(&mut self) {
+        self.whole.memory.set(&self.before);
+        self.apart.memory.set(&self.before);
+    }
+
     /// A session that reads as empty is the second program's empty one, whatever else it holds.
     fn overwrite(&mut self, seed: u64) {
         overwrite(&mut self.before, seed);
-        self.whole.memory.set(&self.before);
-        self.apart.memory.set(&self.before);
+        self.set_memory();
         self.second = (![OPEN, CLOSED].contains(&self.before.stage)).then_some(Session::Empty);
     }
 
@@ -225,6 +251,7 @@ impl Display for Step {
         match self {
             Step::Call(call) => write!(out, "{call}"),
             Step::Overwrite(seed) => write!(out, "(the session is overwritten by seed {seed})"),
+            Step::SetBack => write!(out, "(tree 3 is set to the lowest numbers)"),
             Step::Lengths(call, lengths) => write!(out, "{call} (with arrays of lengths {lengths:?})"),
         }
     }

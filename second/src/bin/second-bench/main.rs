@@ -86,10 +86,15 @@ fn head(name: &str, columns: &[&str]) {
 }
 
 fn sizes() {
-    println!("\n| Site | switches | links | ears |\n|---|---|---|---|");
+    println!("\nThird walks in switches, all but the root's; 'before' is before document 02, Note 6.\n");
+    println!("| Site | switches | links | ears | third walks: longest | average | before: longest | average |");
+    println!("|{}", "---|".repeat(8));
     for case in cases() {
         let [switches, links, ears] = case.sizes();
-        println!("| {} | {switches} | {links} | {ears} |", case.name);
+        let thirds = case.third_walks().map_or("- | - | - | -".to_string(), |[now, before]| {
+            format!("{} | {:.2} | {} | {:.2}", now.0, now.1, before.0, before.1)
+        });
+        println!("| {} | {switches} | {links} | {ears} | {thirds} |", case.name);
     }
 }
 

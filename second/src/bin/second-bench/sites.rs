@@ -4,6 +4,8 @@ use std::collections::HashSet;
 
 use second_reading::plan::{mix, Plan, Shape, ShortEars};
 use second_reading::random::Random;
+use second_reading::session::{list_of, Session};
+use second_reading::Plant;
 
 /// A plan with its name.
 pub struct Case {
@@ -20,6 +22,18 @@ impl Case {
     /// Switches, links and ears.
     pub fn sizes(&self) -> [usize; 3] {
         [self.plan.site.switches as usize, self.plan.site.links.len(), self.plan.ears.len()]
+    }
+
+    /// The longest third walk and the average one, as they are and as they were before document 02, Note 6; none where
+    /// the list does not close.
+    pub fn third_walks(&self) -> Option<[(usize, f64); 2]> {
+        let mut session = Session::Empty;
+        session.load(&self.plan.site, Plant::Nothing).ok()?;
+        session.ears(&list_of(&self.plan.ears));
+        session.close().ok()?;
+        let now = session.tables().ok()?.third_lengths();
+        session.set_back().ok()?;
+        Some([now, session.tables().ok()?.third_lengths()])
     }
 }
 
@@ -128,7 +142,7 @@ pub fn cuts_of(case: &Case) -> [String; 4] {
 #[cfg(test)]
 mod tests {
     use super::*;
-    use second_reading::{dialogue, Plant};
+    use second_reading::dialogue;
 
     #[test]
     fn lists_close_or_are_refused_at_their_end() {
