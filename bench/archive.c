@@ -1,4 +1,5 @@
-/* Makes the calls of a plan through include/threeways.h: load, its list and its ears, close, parent and walk of every switch, zones, clear.
+/* Makes the calls of a plan through include/threeways.h: load, its list and its ears, close, bring_over, parent and walk of every switch,
+ * zones, clear.
  * Call: archive calls PLAN or archive stack PLAN. A line for each call: name, refusal (0: none), length, bytes of stack (calls: 0); the name
  * of zones that are given has their sizes. */
 #include <stdio.h>
@@ -43,6 +44,7 @@ CALL(load, threeways_load(&session, net[0], links, links_count, net[1], net[2], 
 CALL(ear, threeways_ear(&session, ear, ear_count, &result))
 CALL(ears, threeways_ears(&session, list, start[ears], &accepted))
 CALL(close, threeways_close(&session))
+CALL(bring_over, threeways_bring_over(&session))
 CALL(parent, threeways_parent(&session, switch_number, tree, &result))
 CALL(walk, threeways_walk(&session, switch_number, tree, out, room, &result))
 CALL(zones, threeways_zones(&session, sizes[0], sizes[1], sizes[2], out, room))
@@ -172,6 +174,18 @@ static void offer_ears(void)
     }
 }
 
+/* Brings over a session whose tree 3 was overwritten: then it has to be the one that close set. */
+static void bring_over(void)
+{
+    static struct threeways_session before;
+    before = session;
+    if (session.stage == THREEWAYS_CLOSED)
+        memset(session.tree3, 0, session.n * sizeof session.tree3[0]);
+    report("bring_over", 0, make(measured_bring_over));
+    if (memcmp(&before, &session, sizeof session) != 0)
+        fail("bring_over has not left what close set");
+}
+
 static void ask(uint16_t s, uint16_t t)
 {
     switch_number = s;
@@ -205,8 +219,8 @@ static void ask_all_zones(unsigned n)
     room = THREEWAYS_MAX_SWITCHES;
 }
 
-/* A walk that never meets the root, as far as 16 bits count, with room for a network's walks and with room for all of it, and zones of as
- * many switches: the same on every network, so it is asked on the smallest alone. */
+/* A walk that never meets the root, as far as 16 bits count, with room for a network's walks and with room for all of it, zones of as many
+ * switches, and bringing over with as many links: the same on every network, so it is asked on the smallest alone. */
 static void ask_overwritten(void)
 {
     session.n = session.root = ANY;
@@ -221,6 +235,8 @@ static void ask_overwritten(void)
     sizes[2] = ANY - 2;
     bytes = make(measured_zones);
     report("overwritten-zones", refusal.number == 0 ? session.n : 0, bytes);
+    session.m = ANY;
+    report("overwritten-bring_over", 0, make(measured_bring_over));
 }
 
 int main(int count, char **words)
@@ -236,6 +252,7 @@ int main(int count, char **words)
     offer_list();
     offer_ears();
     report("close", 0, make(measured_close));
+    bring_over();
     for (uint16_t t = 1; t <= 3; t++)
         for (uint16_t s = 0; s < net[0]; s++)
             ask(s, t);
