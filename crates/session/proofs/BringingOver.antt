@@ -4,10 +4,11 @@ use mathlib.Core.Path.{_≡_, refl, sym, ap, _∙_}
 use mathlib.Core.Bool.{cond}
 use mathlib.Core.List.{[]}
 use Rattle.mondschein.specs.Judge.{Answer, given, refused, closing}
-use Rattle.mondschein.specs.Order.{shortest}
-use Rattle.mondschein.specs.Outcome.{granted, settle}
+use Rattle.mondschein.specs.Order.{Rule, shortest}
+use Rattle.mondschein.specs.Outcome.{granted, Outcome, settle}
 use Rattle.rows.specs.Rows.{marked}
 use Rattle.thirds.proofs.Tree3.{tree3-again}
+use Rattle.in_place.specs.declared.Stage.the-variants.{Open}
 use Rattle.in_place.specs.declared.Session.{Session}
 use Rattle.in_place.specs.Session.{storedIn, networkIn, tablesIn, withThird, closedWith, thirdIn, byStage, closedBy, broughtBy}
 use Rattle.in_place.proofs.Answers.{on-open}
@@ -30,13 +31,20 @@ only-third =
       tables = λ s. either-way (λ z. tablesIn z ≡ tablesIn s) s refl refl;
     }
 
+-- close on an open session asks for the links alone
+closed-open : (rule : Rule) (s : Session) → s .stage ≡ Open → closedBy rule s ≡ settle s (closedWith s (thirdIn rule s)) (closing (networkIn s) (marked (s .used)))
+unfolding closedBy
+closed-open rule s o = ap (settle s (closedWith s (thirdIn rule s))) (on-open _ _ _ o)
+
+-- whatever it is answered, bringing over then does what the rule has left to do
+brought-after : (rule : Rule) (s : Session) → s .stage ≡ Open → (a : Answer)
+    → broughtBy (settle s (closedWith s (thirdIn rule s)) a .after) .after ≡ settle s (closedWith s (thirdIn shortest s)) a .after
+unfolding broughtBy settle granted byStage
+brought-after rule s o (given vs) = ap (closedWith s) (tree3-again rule (networkIn s) (s .births) (s .tree3))
+brought-after rule s o (refused num place) = ap (λ (a : Answer). cond (granted a) (withThird s (thirdIn shortest s)) s) (on-open _ _ _ o)
+
 pub as-if-closed : AsIfClosed
-unfolding closedBy broughtBy settle granted byStage
 as-if-closed rule s o =
-    ap (λ (a : Answer). broughtBy (settle s (closedWith s (thirdIn rule s)) a .after) .after) (on-open _ _ _ o)
-    ∙ go (closing (networkIn s) (marked (s .used)))
-    ∙ sym (ap (λ (a : Answer). settle s (closedWith s (thirdIn shortest s)) a .after) (on-open _ _ _ o))
-  where
-    go : (a : Answer) → broughtBy (settle s (closedWith s (thirdIn rule s)) a .after) .after ≡ settle s (closedWith s (thirdIn shortest s)) a .after
-    go (given vs) = ap (closedWith s) (tree3-again rule (networkIn s) (s .births) (s .tree3))
-    go (refused num place) = ap (λ (a : Answer). cond (granted a) (withThird s (thirdIn shortest s)) s) (on-open _ _ _ o)
+    ap (λ (x : Outcome Session). broughtBy (x .after) .after) (closed-open rule s o)
+    ∙ brought-after rule s o (closing (networkIn s) (marked (s .used)))
+    ∙ sym (ap (λ (x : Outcome Session). x .after) (closed-open shortest s o))

@@ -26,7 +26,8 @@ fn birth(births: &[u16], v: u16) -> u16
 
 // Puts the half-link of link i that leads to a later birth before the others of its own switch's birth.
 fn chain_link(links: &[u16], births: &[u16], i: usize, heads: &mut [u16], nexts: &mut [u16])
-    requires { ⌜ ChainedFrom (now links) (birthRead (now births)) (suc i) (now heads) (now nexts) × (i < size (tableOf (now links))) × (length (now links) ≤ 8193) ⌝ }
+    requires { ⌜ ChainedFrom (now links) (birthRead (now births)) (suc i) (now heads) (now nexts)
+        × (i < size (tableOf (now links))) × (length (now links) ≤ 8193) ⌝ }
     ensures { λ _. ⌜ ChainedFrom (now (links .entry)) (birthRead (now (births .entry))) i (now (heads .exit)) (now (nexts .exit)) ⌝ }
 {
     let a = birth(births, links[2 * i]) as usize;
@@ -89,7 +90,8 @@ fn follow_half(row: &mut [u16], dist: &mut [u16], n: u16, links: &[u16], h: usiz
 // Follows one chain from its first half-link.
 fn follow_chain(row: &mut [u16], dist: &mut [u16], n: u16, links: &[u16], nexts: &[u16], start: u16)
     requires { ⌜ (length (now row) ≡ 1024) × (length (now dist) ≡ 1024) × Linked (now links) (now nexts) ⌝ }
-    ensures { λ _. ⌜ FollowsChain n (now (links .entry)) (now (nexts .entry)) start (now (row .entry)) (now (dist .entry)) (now (row .exit)) (now (dist .exit)) ⌝ }
+    ensures { λ _. ⌜ FollowsChain n (now (links .entry)) (now (nexts .entry)) start
+        (now (row .entry)) (now (dist .entry)) (now (row .exit)) (now (dist .exit)) ⌝ }
 {
     let end = 2 * (links.len() / 2);
     let mut h = start as usize;
@@ -109,7 +111,8 @@ fn follow_chains(
     nexts: &[u16],
 )
     requires { ⌜ (length (now row) ≡ 1024) × (length (now dist) ≡ 1024) × (length (now heads) ≡ 1024) × Linked (now links) (now nexts) ⌝ }
-    ensures { λ _. ⌜ FollowsChains n (now (links .entry)) (now (heads .entry)) (now (nexts .entry)) 0 (now (row .entry)) (now (dist .entry)) (now (row .exit)) (now (dist .exit)) ⌝ }
+    ensures { λ _. ⌜ FollowsChains n (now (links .entry)) (now (heads .entry)) (now (nexts .entry)) 0
+        (now (row .entry)) (now (dist .entry)) (now (row .exit)) (now (dist .exit)) ⌝ }
 {
     let mut k = 1024;
     while 0 < k {

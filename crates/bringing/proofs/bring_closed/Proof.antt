@@ -1,25 +1,19 @@
-use mathlib.Core.Path.{ap, _∙_}
-use mathlib.Core.List.{List}
-use Prim.Native.Nat.{ℕ, _≤_}
+use mathlib.Core.Path.{_≡_, refl, _∙_}
+use Prim.Native.Nat.{_≤_}
 use native.Mathlib.Omega.{arith}
 use lib.ListN.{length, take}
-use Rattle.in_place.specs.declared.Session.{Session}
-use Rattle.in_place.specs.Session.{withThird, broughtBy}
-use Rattle.in_place.specs.InPlace.{sessionIn}
-use Rattle.in_place.proofs.Answers.{table-whole, tree3-lent, after-given, on-closed}
+use Rattle.mondschein.specs.Order.{shortest}
+use Rattle.network.specs.Load.{networkOf}
+use Rattle.thirds.specs.Tree3.{tree3Of}
+use Rattle.in_place.proofs.Answers.{table-whole, tree3-lent}
 use borrow.Author.Needs.{needs}
+use Rattle.bringing.proofs.Stages.{held, closed-brought}
 use Rattle.bringing.proofs.bring_closed.Statement.{statement}
 use Rattle.bringing.proofs.bring_closed.Tie as tie
 
 -- the way back to the start
 abbrev start : tie.After-least → tie.Start
 start c = c .before .before .before .before .before
-
--- the session that the lent arrays hold, with the rest whatever it is
-abbrev held : tie.Start → List ℕ → List ℕ → List ℕ → List ℕ → Session
-held c used order tree1 tree2 =
-    let a = c .args in
-    sessionIn (a .st) (a .links .now) used (a .births .now) order tree1 tree2 (a .tree3 .now)
 
 cast-least : tie.Need-cast-least
 cast-least c = search needs
@@ -49,13 +43,15 @@ same-length : tie.Need-same-length
 same-length c = search needs
 
 returns : tie.Need-returns
-unfolding broughtBy
 returns c =
     let at-set-tree3 = c .before .before in
     let at-least = at-set-tree3 .before .before .before in
     let begin = start at-least in
-    λ used order tree1 tree2. after-given (held begin used order tree1 tree2) _ (on-closed _ _ _ (begin .pre .0))
-    (ap (withThird (held begin used order tree1 tree2)) (at-set-tree3 .set-tree3 .ensures ∙ tree3-lent (held begin used order tree1 tree2) (at-least .least .ensures)))
+    let a = begin .args in
+    let set : at-set-tree3 .set-tree3 .last .0 ≡ tree3Of shortest (networkOf (a .st .n) (take (at-least .least .result) (a .links .now)) (a .st .root) 0 (a .st .last)) (a .births .now) (a .tree3 .now) =
+    at-set-tree3 .set-tree3 .ensures in
+    closed-brought (a .st) (a .links .now) (a .births .now) (a .tree3 .now) (begin .pre .0) refl
+    (λ used order tree1 tree2. set ∙ tree3-lent (held (a .st) (a .links .now) (a .births .now) (a .tree3 .now) used order tree1 tree2) (at-least .least .ensures))
 
 pub bring-closed-spec : {M : Type 1} → statement M
 bring-closed-spec =

@@ -1,7 +1,7 @@
-use Rattle.in_place.specs.Session.{broughtBy}
-use Rattle.in_place.specs.InPlace.{sessionIn}
-use Rattle.in_place.proofs.Answers.{after-refused, on-empty, on-open}
+use mathlib.Core.Path.{refl}
+use Rattle.in_place.proofs.Answers.{on-empty, on-open}
 use borrow.Author.Needs.{needs}
+use Rattle.bringing.proofs.Stages.{stage-refuses}
 use Rattle.bringing.proofs.bring_over.Statement.{statement}
 use Rattle.bringing.proofs.bring_over.Tie as tie
 
@@ -18,16 +18,14 @@ bring-closed-requires : tie.Need-bring-closed-requires
 bring-closed-requires c κs = search needs
 
 returns : tie.Need-returns
-unfolding broughtBy
 returns c =
     let a = c .before .before .before .before .before .args in
-    λ used order tree1 tree2. after-refused (sessionIn (a .st) (a .links .now) used (a .births .now) order tree1 tree2 (a .tree3 .now)) _ (on-empty _ _ _ (c .enum-told .given .1))
+    stage-refuses (a .st) (a .links .now) (a .births .now) (a .tree3 .now) 19 (on-empty _ _ _ (c .enum-told .given .1)) refl
 
 returns-2 : tie.Need-returns-2
-unfolding broughtBy
 returns-2 c =
     let a = c .before .before .before .before .before .args in
-    λ used order tree1 tree2. after-refused (sessionIn (a .st) (a .links .now) used (a .births .now) order tree1 tree2 (a .tree3 .now)) _ (on-open _ _ _ (c .enum-told2 .given .1))
+    stage-refuses (a .st) (a .links .now) (a .births .now) (a .tree3 .now) 21 (on-open _ _ _ (c .enum-told2 .given .1)) refl
 
 same-length : tie.Need-same-length
 same-length c = search needs

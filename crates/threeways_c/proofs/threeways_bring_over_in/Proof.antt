@@ -8,7 +8,7 @@ use Rattle.in_place.specs.declared.State.{State}
 use Rattle.in_place.specs.Session.{broughtBy}
 use Rattle.in_place.specs.InPlace.{sessionIn}
 use Rattle.bringing.specs.declared.BroughtOver.{BroughtOver}
-use Rattle.bringing.specs.Bringing.{bringAnswer}
+use Rattle.bringing.specs.Bringing.{bringAnswer, BringsIn}
 use Rattle.session.specs.Calls.{called}
 use Rattle.memory.specs.Program.{calledIn}
 use Rattle.memory.specs.Memory.{Memory, numbersBy, memoryBy, stateOf, sessionAt, wrongLengths}
@@ -49,10 +49,12 @@ answered : (c : tie.After-bring-over) (used order tree1 tree2 : List ℕ) (x : B
     → record { answer = bringAnswer x; after = left c used order tree1 tree2 } ≡ broughtBy (sessionAt (held (before-bring c) used order tree1 tree2))
 answered c used order tree1 tree2 x q =
     let a = before-bring c .args in
+    let called : BringsIn (c .before .before .state-of .result) (a .links .now) (a .births .now) (a .tree3 .now) (c .bring-over .result) (c .bring-over .last .1 .1 .1 .0) =
+    c .bring-over .ensures in
     ap (λ (y : BroughtOver). record { answer = bringAnswer y; after = left c used order tree1 tree2 }) (sym q)
     ∙ ap (λ (st : State). record { answer = bringAnswer (c .bring-over .result); after = sessionIn st (a .links .now) used (a .births .now) order tree1 tree2 (c .bring-over .last .1 .1 .1 .0) })
     (sym (c .before .before .state-of .ensures))
-    ∙ c .bring-over .ensures used order tree1 tree2
+    ∙ called used order tree1 tree2
     ∙ ap (λ (st : State). broughtBy (sessionIn st (a .links .now) used (a .births .now) order tree1 tree2 (a .tree3 .now))) (c .before .before .state-of .ensures)
 
 wrong-lengths-requires : tie.Need-wrong-lengths-requires
@@ -83,10 +85,12 @@ returns-2 c =
     let at-answer = c .before in
     let at-bring = at-answer .before .before .before .before in
     λ used order tree1 tree2 u o p q.
-    lengths-right _ _ 0 (lengths-bring _ _ _ _ _ _ _ u o p q ∙ right-lengths (at-bring .before .before))
-    (refusing-call (held (before-bring at-bring) used order tree1 tree2) _ (left at-bring used order tree1 tree2) 0 (bring-leaves _)
-    (answered at-bring used order tree1 tree2 _ (at-answer .answer .given .1)) refl)
-    .returns
+    let mem = held (before-bring at-bring) used order tree1 tree2 in
+    let refused =
+    lengths-right mem _ 0 (lengths-bring _ _ _ _ _ _ _ u o p q ∙ right-lengths (at-bring .before .before))
+    (refusing-call mem _ (left at-bring used order tree1 tree2) 0 (bring-leaves _) (answered at-bring used order tree1 tree2 _ (at-answer .answer .given .1)) refl)
+    .returns in
+    record { refusal = refused .refusal; left = refused .left }
 
 same-length-2 : tie.Need-same-length-2
 same-length-2 c = search needs
