@@ -15,7 +15,7 @@ use Rattle.mondschein.proofs.Outcomes.{parent-ext, written-ext}
 use Rattle.mondschein.proofs.Births.{accepted-passing}
 use Rattle.mondschein.proofs.Routes.{by-tree}
 use Rattle.mondschein.proofs.Thirds.{third-rule, none-shorter, routes-by}
-use Rattle.machine.specs.Machine.{Plan, Closed, closedPlan, State, empty, opened, closed, Call, close, bringOver, answers, told, tells, parentCall, walkCall, orderOf, machine, history, session}
+use Rattle.machine.specs.Machine.{Plan, Closed, closedPlan, State, empty, opened, closed, Call, close, bringOver, answers, told, tells, parentCall, walkCall, orderOf, ductOf, machine, history, session}
 use Rattle.machine.specs.Demands.{Alike, BringingOver, NoShorterWalk}
 use Rattle.machine.proofs.Calls.{writes}
 use Rattle.machine.proofs.History.{state-is-history, Reached, state-of, reached-of}
@@ -30,7 +30,7 @@ unfolding walkOf parentOf
 same-walk rule rule′ net es t v = by-tree (λ t. t ≢ 3 → walkOf rule net es t v ≡ walkOf rule′ net es t v) (λ _. refl) (λ _. refl) (λ d. absurd (d refl)) t
 
 -- a state that is brought over
-brought : (p : Closed) → machine .after (closed p) bringOver ≡ closed (closedPlan shortest (p .net) (p .ears))
+brought : (p : Closed) → machine .after (closed p) bringOver ≡ closed (closedPlan shortest (p .net) (p .ducts) (p .ears))
 unfolding answers tells told
 brought p = refl
 
@@ -49,7 +49,7 @@ module _ (cs : List Call) where
   over-after = foldl-append (machine .after) empty cs (bringOver ∷ [])
 
   module _ (p : Closed) (h : history machine cs ≡ closed p) where
-    over-closed : session machine (cs ++ (bringOver ∷ [])) ≡ closed (closedPlan shortest (p .net) (p .ears))
+    over-closed : session machine (cs ++ (bringOver ∷ [])) ≡ closed (closedPlan shortest (p .net) (p .ducts) (p .ears))
     over-closed = over-after ∙ ap (λ (s : State). machine .after s bringOver) (state-of cs (closed p) h) ∙ brought p
 
 order-stays : (s : State) → orderOf (machine .after s bringOver) ≡ orderOf s
@@ -65,6 +65,7 @@ alike-itself s s′ q =
       parents = λ v t. ap (λ (z : State). parentCall z v t) q;
       walks = λ v t out. ap (λ (z : State). walkCall z v t out) q;
       orders = ap orderOf q;
+      ducts = λ i. ap (λ (z : State). ductOf z i) q;
     }
 
 pub bringing-over : BringingOver machine
@@ -94,10 +95,10 @@ bringing-over =
     }
 
 -- the walks by Note 6's rule are as short as any
-least-walk : (net : Network) (es : Ears) → Reached (closed (closedPlan shortest net es)) → (q : ℕ → ℕ) → Third net es q → (v : ℕ) → v < net .n
+least-walk : (net : Network) (ducts : List ℕ) (es : Ears) → Reached (closed (closedPlan shortest net ducts es)) → (q : ℕ → ℕ) → Third net es q → (v : ℕ) → v < net .n
     → (w : List ℕ) → Walk (net .root) q v w → length (walkOf shortest net es 3 v) ≤ length w
 unfolding Reached parentOf
-least-walk net es ((proper, a), u) q T v l w W =
+least-walk net ducts es ((proper, a), u) q T v l w W =
     let acc = accepted-passing net es a in
     none-shorter net proper es acc u (parent3Of net (birth es) shortest) (third-rule net proper es acc u shortest) q T v l (walkOf shortest net es 3 v) w
     (routes-by shortest net proper es acc u .walks 3 (omega arith) v l) W
@@ -106,7 +107,7 @@ pub no-shorter-walk : NoShorterWalk machine
 unfolding Reached
 no-shorter-walk cs p h r q T v l w W out m =
     let least : length (walkOf (p .rule) (p .net) (p .ears) 3 v) ≤ length w =
-    subst (λ (rule : Rule). length (walkOf rule (p .net) (p .ears) 3 v) ≤ length w) (sym r) (least-walk (p .net) (p .ears) (reached-of cs (closed p) h) q T v l w W) in (
+    subst (λ (rule : Rule). length (walkOf rule (p .net) (p .ears) 3 v) ≤ length w) (sym r) (least-walk (p .net) (p .ducts) (p .ears) (reached-of cs (closed p) h) q T v l w W) in (
       length (walkOf (p .rule) (p .net) (p .ears) 3 v),
       ap (λ (s : State). walkCall s v 3 out .answer) (state-of cs (closed p) h)
           ∙ ap (λ (o : Outcome (List ℕ)). o .answer) (writes p .longEnough 3 v (omega arith) l out (omega arith)),

@@ -16,17 +16,17 @@ use Rattle.machine.proofs.History.{state-is-history, Kept, Reached, sta
 
 -- an open session after calls, and ears that are accepted after those that it holds
 module _ (cs : List Call) (p : Plan) (h : history machine cs ≡ opened p) (short : Ears) (acc : Accepted (p .net) (p .ears ++ short)) where
-  short-run : session machine (cs ++ map ear short) ≡ opened (plan (p .net) (p .ears ++ short))
+  short-run : session machine (cs ++ map ear short) ≡ opened (plan (p .net) (p .ducts) (p .ears ++ short))
   short-run =
       let passing = accepted-passing (p .net) (p .ears ++ short) acc in
       let whole = accepted-entered (p .net) short (p .ears) passing in
       foldl-append (machine .after) empty cs (map ear short)
       ∙ ap (λ (s : State). foldl (machine .after) s (map ear short)) (state-of cs (opened p) h)
-      ∙ offered-run (p .net) short (p .ears) (subst (Passing (p .net)) (sym whole) passing)
-      ∙ ap (λ (es : Ears). opened (plan (p .net) es)) whole
+      ∙ offered-run (p .net) (p .ducts) short (p .ears) (subst (Passing (p .net)) (sym whole) passing)
+      ∙ ap (λ (es : Ears). opened (plan (p .net) (p .ducts) es)) whole
 
 alike-itself : (s : State) → Alike machine s s
-alike-itself s = record { calls = λ c. refl; parents = λ v t. refl; walks = λ v t out. refl; orders = refl }
+alike-itself s = record { calls = λ c. refl; parents = λ v t. refl; walks = λ v t out. refl; orders = refl; ducts = λ i. refl }
 
 -- on an open session that has its first ear
 module _ (cs : List Call) (p : Plan) (h : history machine cs ≡ opened p) (some : 0 < length (p .ears)) where
@@ -50,7 +50,7 @@ module _ (cs : List Call) (p : Plan) (h : history machine cs ≡ opened p) (some
       split : entered (p .net) (p .ears) [] ≡ (p .ears ++ take i short) ++ drop i short
       split = sym (append-assoc (p .ears) (take i short) (drop i short) ∙ ap (λ (ds : Ears). p .ears ++ ds) (take-append-drop i short))
 
-  after-empty : (ds : List Call) → session machine (cs ++ (ear [] ∷ ds)) ≡ foldl (machine .after) (opened (plan (p .net) (entered (p .net) (p .ears) []))) ds
+  after-empty : (ds : List Call) → session machine (cs ++ (ear [] ∷ ds)) ≡ foldl (machine .after) (opened (plan (p .net) (p .ducts) (entered (p .net) (p .ears) []))) ds
   after-empty ds = accepted-run cs ds p [] (0 ∷ []) (state-of cs (opened p) h) (answer-empty (p .net) (p .ears) some)
 
   equal : (ds : List Call) → session machine (cs ++ (ear [] ∷ ds)) ≡ session machine (cs ++ (map ear short ++ ds))

@@ -43,15 +43,15 @@ one-by-one s l =
     (ap (λ (a : Answer). tells (ears l) a s) q ∙ offering-accepts offer longer offer-grants offer-refuses s es vs q ∙ x)
 
 -- ears that are accepted with those before them, in one call
-pub listed-run : (net : Network) (rest es : Ears) (k : ℕ) → Passing net (foldl (entered net) es rest)
-    → offeringFrom (offerBy machine) k (opened (plan net es)) rest .after ≡ opened (plan net (foldl (entered net) es rest))
+pub listed-run : (net : Network) (ducts : List ℕ) (rest es : Ears) (k : ℕ) → Passing net (foldl (entered net) es rest)
+    → offeringFrom (offerBy machine) k (opened (plan net ducts es)) rest .after ≡ opened (plan net ducts (foldl (entered net) es rest))
 unfolding offeringFrom answers told tells longer
-listed-run net [] es k acc = refl
-listed-run net (e ∷ rest) es k acc =
+listed-run net ducts [] es k acc = refl
+listed-run net ducts (e ∷ rest) es k acc =
     let (vs, q) = entered-answer net es e rest acc in
     ap (λ (o : Outcome State). o .after)
-    (offering-next (offerBy machine) k (opened (plan net es)) e rest (ap (λ (a : Answer). record { answer = a; after = tells (ear e) a (opened (plan net es)) }) q))
-    ∙ listed-run net rest (entered net es e) (suc k) acc
+    (offering-next (offerBy machine) k (opened (plan net ducts es)) e rest (ap (λ (a : Answer). record { answer = a; after = tells (ear e) a (opened (plan net ducts es)) }) q))
+    ∙ listed-run net ducts rest (entered net es e) (suc k) acc
 
 -- a call that is answered so and leaves a session gives values, or refuses and leaves the session s
 abbrev pub Leaves : {A : Type 0} → ℕ → Call → A → Answer → A → Type 0
