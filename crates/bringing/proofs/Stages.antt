@@ -14,22 +14,22 @@ use Rattle.in_place.proofs.Answers.{after-refused, after-given, on-closed}
 
 module _ (st : State) (links births tree3 : List ℕ) where
   -- the session that the lent arrays hold, with the rest whatever it is
-  abbrev pub held : List ℕ → List ℕ → List ℕ → List ℕ → Session
-  held used order tree1 tree2 = sessionIn st links used births order tree1 tree2 tree3
+  abbrev pub held : List ℕ → List ℕ → List ℕ → List ℕ → List ℕ → Session
+  held ducts used order tree1 tree2 = sessionIn st links ducts used births order tree1 tree2 tree3
 
   -- what is promised where the answer is a, with this row for tree 3 after it
   abbrev Brings : Answer → List ℕ → Type 0
-  Brings a row = (used order tree1 tree2 : List ℕ) → record { answer = a; after = withThird (held used order tree1 tree2) row } ≡ broughtBy (held used order tree1 tree2)
+  Brings a row = (ducts used order tree1 tree2 : List ℕ) → record { answer = a; after = withThird (held ducts used order tree1 tree2) row } ≡ broughtBy (held ducts used order tree1 tree2)
 
   pub stage-refuses : (num : ℕ) {a : Answer} → byStage (st .stage) (refused 19 0) (refused 21 0) (given []) ≡ refused num 0 → a ≡ refused num 0 → Brings a tree3
   unfolding broughtBy
-  stage-refuses num due q used order tree1 tree2 =
-      let s = held used order tree1 tree2 in
+  stage-refuses num due q ducts used order tree1 tree2 =
+      let s = held ducts used order tree1 tree2 in
       ap (λ (a : Answer). record { answer = a; after = s }) q ∙ after-refused s _ due
 
-  pub closed-brought : {a : Answer} {row : List ℕ} → st .stage ≡ Closed → a ≡ given [] → ((used order tree1 tree2 : List ℕ) → row ≡ thirdIn shortest (held used order tree1 tree2))
+  pub closed-brought : {a : Answer} {row : List ℕ} → st .stage ≡ Closed → a ≡ given [] → ((ducts used order tree1 tree2 : List ℕ) → row ≡ thirdIn shortest (held ducts used order tree1 tree2))
       → Brings a row
   unfolding broughtBy
-  closed-brought {a} {row} e q third used order tree1 tree2 =
-      let s = held used order tree1 tree2 in
-      ap (λ (a : Answer). record { answer = a; after = withThird s row }) q ∙ after-given s _ (on-closed _ _ _ e) (ap (withThird s) (third used order tree1 tree2))
+  closed-brought {a} {row} e q third ducts used order tree1 tree2 =
+      let s = held ducts used order tree1 tree2 in
+      ap (λ (a : Answer). record { answer = a; after = withThird s row }) q ∙ after-given s _ (on-closed _ _ _ e) (ap (withThird s) (third ducts used order tree1 tree2))

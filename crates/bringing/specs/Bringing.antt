@@ -14,8 +14,8 @@ abbrev pub bringAnswer : BroughtOver → Answer
 bringAnswer Done = given []
 bringAnswer (Refused num place) = refused num place
 
--- bringing over, whatever the used links, the order and trees 1 and 2 hold
+-- bringing over, whatever the ducts, the used links, the order and trees 1 and 2 hold
 abbrev pub BringsIn : State → List ℕ → List ℕ → List ℕ → BroughtOver → List ℕ → Type 0
 BringsIn st links births tree3 r tree3′ =
-    (used order tree1 tree2 : List ℕ) → record { answer = bringAnswer r; after = sessionIn st links used births order tree1 tree2 tree3′ }
-    ≡ broughtBy (sessionIn st links used births order tree1 tree2 tree3)
+    (ducts used order tree1 tree2 : List ℕ) → record { answer = bringAnswer r; after = sessionIn st links ducts used births order tree1 tree2 tree3′ }
+    ≡ broughtBy (sessionIn st links ducts used births order tree1 tree2 tree3)

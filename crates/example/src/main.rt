@@ -42,7 +42,7 @@ fn write_refusal(number: u8, place: u16) {
 
 // Loads a network into a fresh session, writes the answer, and gives the session after it.
 fn load(n: u16, links: &[u16], root: u16, first: u16, last: u16) -> Session {
-    let loaded = session::load(Session::empty(), n, links, root, first, last);
+    let loaded = session::load_flat(Session::empty(), n, links, &[], root, first, last);
     let answer = loaded.answer;
     match answer {
         Load::Loaded(switches, size) => write_form(b"opened", &[switches, size]),

@@ -29,9 +29,9 @@ use Rattle.in_place.specs.Session.{sessionOf, networkIn, tablesIn, after
 use Rattle.in_place.specs.Queries.{parentBy, walkedBy}
 
 -- the session with this state and these arrays
-abbrev pub sessionIn : State → List ℕ → List ℕ → List ℕ → List ℕ → List ℕ → List ℕ → List ℕ → Session
-sessionIn st links used births order tree1 tree2 tree3 =
-    sessionOf (st .stage) (record { n = st .n; m = st .m; root = st .root; first = st .first; last = st .last; links = links })
+abbrev pub sessionIn : State → List ℕ → List ℕ → List ℕ → List ℕ → List ℕ → List ℕ → List ℕ → List ℕ → Session
+sessionIn st links ducts used births order tree1 tree2 tree3 =
+    sessionOf (st .stage) (record { n = st .n; m = st .m; root = st .root; first = st .first; last = st .last; links = links; ducts = ducts })
     (tablesOf used (st .longs) births (st .born) order tree1 tree2) tree3
 
 -- what a session holds beside its arrays
@@ -48,8 +48,9 @@ closedState st =
     record { stage = Closed; n = st .n; m = st .m; root = st .root; first = st .first; last = st .last; longs = st .longs; born = st .born }
 
 -- the arrays have the lengths of the session's type
-pub record SizedAs (l u b o p q t : List ℕ) : Type 0 where
+pub record SizedAs (l d u b o p q t : List ℕ) : Type 0 where
   pub links : length l ≡ 8192
+  pub ducts : length d ≡ 4096
   pub used : length u ≡ 4096
   pub births : length b ≡ 1024
   pub order : length o ≡ 1024
@@ -78,47 +79,47 @@ pub record KeepsIndex (st : State) (links index : List ℕ) (answer : Answer) (s
   pub leaves : (num place : ℕ) → answer ≡ refused num place → index′ ≡ index
 
 -- load
-abbrev pub LoadsIn : Session → Network → LoadedIn → Session → Type 0
-LoadsIn s net r s′ = record { answer = loadAnswer (r .answer); after = s′ } ≡ loadedBy s net
+abbrev pub LoadsIn : Session → Network → List ℕ → LoadedIn → Session → Type 0
+LoadsIn s net ducts r s′ = record { answer = loadAnswer (r .answer); after = s′ } ≡ loadedBy s net ducts
 
 -- checks 7 to 16 of an ear on an open session
 abbrev pub JudgesOpen : State → List ℕ → List ℕ → List ℕ → List ℕ → List ℕ → List ℕ → List ℕ → OfferedIn → List ℕ → List ℕ → List ℕ → List ℕ → List ℕ → Type 0
 JudgesOpen st links used births order tree1 tree2 e r used′ births′ order′ tree1′ tree2′ =
-    (tree3 : List ℕ) → record { answer = earAnswer (r .answer); after = sessionIn (r .state) links used′ births′ order′ tree1′ tree2′ tree3 }
-    ≡ (let s = sessionIn st links used births order tree1 tree2 tree3 in
+    (ducts tree3 : List ℕ) → record { answer = earAnswer (r .answer); after = sessionIn (r .state) links ducts used′ births′ order′ tree1′ tree2′ tree3 }
+    ≡ (let s = sessionIn st links ducts used births order tree1 tree2 tree3 in
     settle s (withTables s (afterEar (networkIn s) e (tablesIn s))) (verdict (networkIn s) (marked births) (marked used) (eqb (st .born) 0) e))
 
 -- ear on an open session: an empty one, or checks 7 to 16
 abbrev pub OffersOpen : State → List ℕ → List ℕ → List ℕ → List ℕ → List ℕ → List ℕ → List ℕ → OfferedIn → List ℕ → List ℕ → List ℕ → List ℕ → List ℕ → Type 0
 OffersOpen st links used births order tree1 tree2 e r used′ births′ order′ tree1′ tree2′ =
-    (tree3 : List ℕ) → record { answer = earAnswer (r .answer); after = sessionIn (r .state) links used′ births′ order′ tree1′ tree2′ tree3 }
-    ≡ (let s = sessionIn st links used births order tree1 tree2 tree3 in
+    (ducts tree3 : List ℕ) → record { answer = earAnswer (r .answer); after = sessionIn (r .state) links ducts used′ births′ order′ tree1′ tree2′ tree3 }
+    ≡ (let s = sessionIn st links ducts used births order tree1 tree2 tree3 in
     settle s (withTables s (afterOffer (networkIn s) e (tablesIn s))) (entering (networkIn s) (marked births) (marked used) (eqb (st .born) 0) e))
 
--- ear, whatever tree 3 holds
+-- ear, whatever the ducts and tree 3 hold
 abbrev pub OffersIn : State → List ℕ → List ℕ → List ℕ → List ℕ → List ℕ → List ℕ → List ℕ → OfferedIn → List ℕ → List ℕ → List ℕ → List ℕ → List ℕ → Type 0
 OffersIn st links used births order tree1 tree2 e r used′ births′ order′ tree1′ tree2′ =
-    (tree3 : List ℕ) → record { answer = earAnswer (r .answer); after = sessionIn (r .state) links used′ births′ order′ tree1′ tree2′ tree3 }
-    ≡ offeredBy (sessionIn st links used births order tree1 tree2 tree3) e
+    (ducts tree3 : List ℕ) → record { answer = earAnswer (r .answer); after = sessionIn (r .state) links ducts used′ births′ order′ tree1′ tree2′ tree3 }
+    ≡ offeredBy (sessionIn st links ducts used births order tree1 tree2 tree3) e
 
 -- close on an open session: check 23
 abbrev pub ClosesOpen : State → List ℕ → List ℕ → List ℕ → List ℕ → ClosedIn → List ℕ → Type 0
 ClosesOpen st links used births tree3 r tree3′ =
-    (order tree1 tree2 : List ℕ) → record { answer = closeAnswer (r .answer); after = sessionIn (r .state) links used births order tree1 tree2 tree3′ }
-    ≡ (let s = sessionIn st links used births order tree1 tree2 tree3 in
+    (ducts order tree1 tree2 : List ℕ) → record { answer = closeAnswer (r .answer); after = sessionIn (r .state) links ducts used births order tree1 tree2 tree3′ }
+    ≡ (let s = sessionIn st links ducts used births order tree1 tree2 tree3 in
     settle s (closedWith s (thirdIn shortest s)) (closing (networkIn s) (marked used)))
 
--- close, whatever the order and trees 1 and 2 hold
+-- close, whatever the ducts, the order and trees 1 and 2 hold
 abbrev pub ClosesIn : State → List ℕ → List ℕ → List ℕ → List ℕ → ClosedIn → List ℕ → Type 0
 ClosesIn st links used births tree3 r tree3′ =
-    (order tree1 tree2 : List ℕ) → record { answer = closeAnswer (r .answer); after = sessionIn (r .state) links used births order tree1 tree2 tree3′ }
-    ≡ closedBy shortest (sessionIn st links used births order tree1 tree2 tree3)
+    (ducts order tree1 tree2 : List ℕ) → record { answer = closeAnswer (r .answer); after = sessionIn (r .state) links ducts used births order tree1 tree2 tree3′ }
+    ≡ closedBy shortest (sessionIn st links ducts used births order tree1 tree2 tree3)
 
 -- parent and walk, whatever the other arrays hold
 abbrev pub ParentIn : State → List ℕ → List ℕ → List ℕ → ℕ → ℕ → Parent → Type 0
 ParentIn st tree1 tree2 tree3 switch tree r =
-    (links used births order : List ℕ) → parentAnswer r ≡ parentBy (sessionIn st links used births order tree1 tree2 tree3) switch tree
+    (links ducts used births order : List ℕ) → parentAnswer r ≡ parentBy (sessionIn st links ducts used births order tree1 tree2 tree3) switch tree
 
 abbrev pub WalksIn : State → List ℕ → List ℕ → List ℕ → ℕ → ℕ → List ℕ → Walk → List ℕ → Type 0
 WalksIn st tree1 tree2 tree3 switch tree out r out′ =
-    (links used births order : List ℕ) → record { answer = walkAnswer r; after = out′ } ≡ walkedBy (sessionIn st links used births order tree1 tree2 tree3) switch tree out
+    (links ducts used births order : List ℕ) → record { answer = walkAnswer r; after = out′ } ≡ walkedBy (sessionIn st links ducts used births order tree1 tree2 tree3) switch tree out

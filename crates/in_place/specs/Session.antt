@@ -20,7 +20,7 @@ use Rattle.in_place.specs.declared.Stage.{Stage}
 use Rattle.in_place.specs.declared.Stage.the-variants.{Empty, Open, Closed}
 use Rattle.in_place.specs.declared.Session.{Session}
 
--- the network as a session stores it: M, and the table at the start of an array
+-- the network as a session stores it: M, and the table and the ducts of its links at the start of an array each
 pub record Stored : Type 0 where
   pub n : ℕ
   pub m : ℕ
@@ -28,6 +28,7 @@ pub record Stored : Type 0 where
   pub first : ℕ
   pub last : ℕ
   pub links : List ℕ
+  pub ducts : List ℕ
 
 -- a session by its parts: the stage, the network, what the accepted ears have left, and tree 3
 abbrev pub sessionOf : Stage → Stored → Tables → List ℕ → Session
@@ -40,6 +41,7 @@ sessionOf stage k t tree3 =
       first = k .first;
       last = k .last;
       links = k .links;
+      ducts = k .ducts;
       used = t .used;
       longs = t .longs;
       births = t .births;
@@ -58,11 +60,20 @@ abbrev pub padded : ℕ → List ℕ → List ℕ
 padded c l = l ++ zeros (c - length l)
 
 -- the network of a plan, and none
-abbrev pub storedOf : Network → Stored
-storedOf net = record { n = net .n; m = size net; root = net .root; first = net .first; last = net .last; links = padded 8192 (net .links) }
+abbrev pub storedOf : Network → List ℕ → Stored
+storedOf net ducts =
+    record {
+      n = net .n;
+      m = size net;
+      root = net .root;
+      first = net .first;
+      last = net .last;
+      links = padded 8192 (net .links);
+      ducts = padded 4096 (take (size net) ducts);
+    }
 
 abbrev pub noneStored : Stored
-noneStored = record { n = 0; m = 0; root = 0; first = 0; last = 0; links = zeros 8192 }
+noneStored = record { n = 0; m = 0; root = 0; first = 0; last = 0; links = zeros 8192; ducts = zeros 4096 }
 
 -- nothing is born and no link used
 abbrev pub noTables : Tables
@@ -72,9 +83,9 @@ noTables = tablesOf (zeros 4096) 0 (zeros 1024) 0 (zeros 1024) (zeros 1024) (zer
 abbrev pub emptySession : Session
 emptySession = sessionOf Empty noneStored noTables (zeros 1024)
 
--- the session that has loaded a network and accepted no ear
-unfoldable pub openedWith : Network → Session
-openedWith net = sessionOf Open (storedOf net) noTables (zeros 1024)
+-- the session that has loaded a network with its ducts and accepted no ear; a link past the end of the ducts has duct 0
+unfoldable pub openedWith : Network → List ℕ → Session
+openedWith net ducts = sessionOf Open (storedOf net ducts) noTables (zeros 1024)
 
 -- the network that is stored
 abbrev pub networkAs : Stored → Network
@@ -82,7 +93,7 @@ networkAs k = networkOf (k .n) (take (2 * k .m) (k .links)) (k .root) (k .first)
 
 -- the parts of a session: the network, and what its accepted ears have left
 abbrev pub storedIn : Session → Stored
-storedIn s = record { n = s .n; m = s .m; root = s .root; first = s .first; last = s .last; links = s .links }
+storedIn s = record { n = s .n; m = s .m; root = s .root; first = s .first; last = s .last; links = s .links; ducts = s .ducts }
 
 abbrev pub networkIn : Session → Network
 networkIn s = networkAs (storedIn s)
@@ -117,9 +128,9 @@ byStage Empty a b c = a
 byStage Open a b c = b
 byStage Closed a b c = c
 
--- load: 20 on a session that is not empty, then checks 1 to 6
-unfoldable pub loadedBy : Session → Network → Outcome Session
-loadedBy s net = settle s (openedWith net) (byStage (s .stage) (loading net) (refused 20 0) (refused 20 0))
+-- load: 20 on a session that is not empty, then checks 1 to 6; they do not ask for the ducts
+unfoldable pub loadedBy : Session → Network → List ℕ → Outcome Session
+loadedBy s net ducts = settle s (openedWith net ducts) (byStage (s .stage) (loading net) (refused 20 0) (refused 20 0))
 
 -- ear: 19 on an empty session, 22 on a closed one; then it is the first where nothing is born, an empty one after it takes the leftover
 -- links (document 02, Note 2), and any other is judged by checks 7 to 16

@@ -22,7 +22,7 @@ pub enum Stage {
     Closed,
 }
 
-// The network (its table flat, as lent), used links (1), the count of long ears, births by long ear (0 unborn), the order with its
+// The network (its table flat, as lent) with the ducts of its links, used links (1), the count of long ears, births by long ear (0 unborn), the order with its
 // count `born`, and the three parent tables.
 pub struct Session {
     pub stage: Stage,
@@ -32,6 +32,7 @@ pub struct Session {
     pub first: u16,
     pub last: u16,
     pub links: [u16; 2 * (MAX_LINKS as usize)],
+    pub ducts: [u8; MAX_LINKS as usize],
     pub used: [u8; MAX_LINKS as usize],
     pub longs: u16,
     pub births: [u16; MAX_SWITCHES as usize],
@@ -63,6 +64,7 @@ impl Session {
             first: 0,
             last: 0,
             links: [0u16; 2 * (MAX_LINKS as usize)],
+            ducts: [0u8; MAX_LINKS as usize],
             used: [0u8; MAX_LINKS as usize],
             longs: 0,
             births: [0u16; MAX_SWITCHES as usize],

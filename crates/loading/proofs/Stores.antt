@@ -31,7 +31,7 @@ openState n links root first last =
     record { stage = Open; n = n; m = length links / 2; root = root; first = first; last = last; longs = 0; born = 0 }
 
 -- arrays of zeros, of the lengths that a session's have
-module _ {l u b o p q t : List ℕ} (z : SizedAs l u b o p q t) {u′ b′ o′ p′ q′ t′ : List ℕ}
+module _ {l d u b o p q t : List ℕ} (z : SizedAs l d u b o p q t) {u′ b′ o′ p′ q′ t′ : List ℕ}
     (e : (u′ ≡ zeros (length u)) × (b′ ≡ zeros (length b)) × (o′ ≡ zeros (length o)) × (p′ ≡ zeros (length p)) × (q′ ≡ zeros (length q)) × (t′ ≡ zeros (length t))) where
   cleared : (stage : Stage) (k : Stored) → sessionOf stage k (tablesOf u′ 0 b′ 0 o′ p′ q′) t′ ≡ sessionOf stage k noTables (zeros 1024)
   cleared stage k =
@@ -43,19 +43,22 @@ module _ {l u b o p q t : List ℕ} (z : SizedAs l u b o p q t) {u′ b′ o′ 
       ∙ ap (λ (x : List ℕ). sessionOf stage k noTables x) (e .5 ∙ ap zeros (z .tree3))
 
   -- with no network
-  pub emptied : {r : State} {l′ : List ℕ} → r ≡ emptyState → l′ ≡ zeros (length l) → sessionIn r l′ u′ b′ o′ p′ q′ t′ ≡ emptySession
-  emptied {r} {l′} a f =
-      ap (λ (st : State). sessionIn st l′ u′ b′ o′ p′ q′ t′) a
-      ∙ ap (λ (x : List ℕ). sessionIn emptyState x u′ b′ o′ p′ q′ t′) (f ∙ ap zeros (z .links))
+  pub emptied : {r : State} {l′ d′ : List ℕ} → r ≡ emptyState → l′ ≡ zeros (length l) → d′ ≡ zeros (length d) → sessionIn r l′ d′ u′ b′ o′ p′ q′ t′ ≡ emptySession
+  emptied {r} {l′} {d′} a f g =
+      ap (λ (st : State). sessionIn st l′ d′ u′ b′ o′ p′ q′ t′) a
+      ∙ ap (λ (x : List ℕ). sessionIn emptyState x d′ u′ b′ o′ p′ q′ t′) (f ∙ ap zeros (z .links))
+      ∙ ap (λ (x : List ℕ). sessionIn emptyState (zeros 8192) x u′ b′ o′ p′ q′ t′) (g ∙ ap zeros (z .ducts))
       ∙ cleared Empty noneStored
 
-  -- with a network
-  pub stored : (n : ℕ) (links : List ℕ) (root first last : ℕ) {l′ : List ℕ} → l′ ≡ padded (length l) links
-      → sessionIn (openState n links root first last) l′ u′ b′ o′ p′ q′ t′ ≡ openedWith (networkOf n links root first last)
+  -- with a network and the ducts of its links
+  pub stored : (n : ℕ) (links ducts : List ℕ) (root first last : ℕ) {l′ d′ : List ℕ} → l′ ≡ padded (length l) links → d′ ≡ padded (length d) (take (length links / 2) ducts)
+      → sessionIn (openState n links root first last) l′ d′ u′ b′ o′ p′ q′ t′ ≡ openedWith (networkOf n links root first last) ducts
   unfolding openedWith size
-  stored n links root first last f =
-      ap (λ (x : List ℕ). sessionIn (openState n links root first last) x u′ b′ o′ p′ q′ t′) (f ∙ ap (λ (k : ℕ). padded k links) (z .links))
-      ∙ cleared Open (storedOf (networkOf n links root first last))
+  stored n links ducts root first last {l′} {d′} f g =
+      let st = openState n links root first last in
+      ap (λ (x : List ℕ). sessionIn st x d′ u′ b′ o′ p′ q′ t′) (f ∙ ap (λ (k : ℕ). padded k links) (z .links))
+      ∙ ap (λ (x : List ℕ). sessionIn st (padded 8192 links) x u′ b′ o′ p′ q′ t′) (g ∙ ap (λ (k : ℕ). padded k (take (length links / 2) ducts)) (z .ducts))
+      ∙ cleared Open (storedOf (networkOf n links root first last) ducts)
 
 -- the index of the numbers that were lent is that of the links that are stored
 pub index-stored : (n : ℕ) (links : List ℕ) (root first last c : ℕ) {l′ index : List ℕ} → Paired links → l′ ≡ padded c links → Indexed (tableOf links) index

@@ -37,6 +37,7 @@ fn clear_tables(
 // Clears the session, and the index with it: always succeeds.
 pub fn clear(
     links: &mut [u16],
+    ducts: &mut [u8],
     used: &mut [u8],
     births: &mut [u16],
     order: &mut [u16],
@@ -45,11 +46,12 @@ pub fn clear(
     tree3: &mut [u16],
     index: &mut [u16],
 ) -> State
-    requires { ⌜ SizedAs (now links) (now used) (now births) (now order) (now tree1) (now tree2) (now tree3) ⌝ }
-    ensures { λ r. ⌜ (sessionIn r (now (links .exit)) (now (used .exit)) (now (births .exit)) (now (order .exit)) (now (tree1 .exit)) (now (tree2 .exit)) (now (tree3 .exit)) ≡ emptySession) × IndexedIn r (now (links .exit)) (now (index .exit)) ⌝ }
+    requires { ⌜ SizedAs (now links) (now ducts) (now used) (now births) (now order) (now tree1) (now tree2) (now tree3) ⌝ }
+    ensures { λ r. ⌜ (sessionIn r (now (links .exit)) (now (ducts .exit)) (now (used .exit)) (now (births .exit)) (now (order .exit)) (now (tree1 .exit)) (now (tree2 .exit)) (now (tree3 .exit)) ≡ emptySession) × IndexedIn r (now (links .exit)) (now (index .exit)) ⌝ }
 {
     network::make_index(&links[..0], index);
     rows::fill(links, 0);
+    rows::unmark(ducts);
     clear_tables(used, births, order, tree1, tree2, tree3);
     State::empty()
 }
@@ -99,14 +101,29 @@ fn pad(row: &mut [u16], numbers: &[u16])
     }
 }
 
-// Stores a network, with its index: nothing is born, and no link used.
+// The ducts at the start of a row, and zeros after them.
+fn pad_ducts(row: &mut [u8], ducts: &[u8])
+    requires { ⌜ length (now ducts) ≤ length (now row) ⌝ }
+    ensures { λ _. ⌜ now (row .exit) ≡ padded (length (now (row .entry))) (now (ducts .entry)) ⌝ }
+{
+    rows::unmark(row);
+    let mut i = 0;
+    while i < ducts.len() {
+        row[i] = ducts[i];
+        i += 1;
+    }
+}
+
+// Stores a network, with its ducts and its index: nothing is born, and no link used. A link past the end of the ducts has duct 0.
 fn store_network(
     n: u16,
     links: &[u16],
+    ducts: &[u8],
     root: u16,
     first: u16,
     last: u16,
     table: &mut [u16],
+    row: &mut [u8],
     used: &mut [u8],
     births: &mut [u16],
     order: &mut [u16],
@@ -115,11 +132,13 @@ fn store_network(
     tree3: &mut [u16],
     index: &mut [u16],
 ) -> State
-    requires { ⌜ Paired (now links) × SizedAs (now table) (now used) (now births) (now order) (now tree1) (now tree2) (now tree3) ⌝ }
-    ensures { λ r. ⌜ (sessionIn r (now (table .exit)) (now (used .exit)) (now (births .exit)) (now (order .exit)) (now (tree1 .exit)) (now (tree2 .exit)) (now (tree3 .exit)) ≡ openedWith (networkOf n (now (links .entry)) root first last)) × IndexedIn r (now (table .exit)) (now (index .exit)) ⌝ }
+    requires { ⌜ Paired (now links) × SizedAs (now table) (now row) (now used) (now births) (now order) (now tree1) (now tree2) (now tree3) ⌝ }
+    ensures { λ r. ⌜ (sessionIn r (now (table .exit)) (now (row .exit)) (now (used .exit)) (now (births .exit)) (now (order .exit)) (now (tree1 .exit)) (now (tree2 .exit)) (now (tree3 .exit)) ≡ openedWith (networkOf n (now (links .entry)) root first last) (now (ducts .entry))) × IndexedIn r (now (table .exit)) (now (index .exit)) ⌝ }
 {
     network::make_index(links, index);
     pad(table, links);
+    let given = rows::least(links.len() / 2, ducts.len());
+    pad_ducts(row, &ducts[..given]);
     clear_tables(used, births, order, tree1, tree2, tree3);
     let stage = Stage::Open;
     State {
@@ -146,10 +165,12 @@ fn load_empty(
     st: State,
     n: u16,
     links: &[u16],
+    ducts: &[u8],
     root: u16,
     first: u16,
     last: u16,
     table: &mut [u16],
+    row: &mut [u8],
     used: &mut [u8],
     births: &mut [u16],
     order: &mut [u16],
@@ -158,8 +179,8 @@ fn load_empty(
     tree3: &mut [u16],
     index: &mut [u16],
 ) -> LoadedIn
-    requires { ⌜ SizedAs (now table) (now used) (now births) (now order) (now tree1) (now tree2) (now tree3) ⌝ }
-    ensures { λ r. ⌜ record { answer = loadAnswer (r .answer); after = sessionIn (r .state) (now (table .exit)) (now (used .exit)) (now (births .exit)) (now (order .exit)) (now (tree1 .exit)) (now (tree2 .exit)) (now (tree3 .exit)) } ≡ settle (sessionIn st (now (table .entry)) (now (used .entry)) (now (births .entry)) (now (order .entry)) (now (tree1 .entry)) (now (tree2 .entry)) (now (tree3 .entry))) (openedWith (networkOf n (now (links .entry)) root first last)) (loading (networkOf n (now (links .entry)) root first last)) ⌝ }
+    requires { ⌜ SizedAs (now table) (now row) (now used) (now births) (now order) (now tree1) (now tree2) (now tree3) ⌝ }
+    ensures { λ r. ⌜ record { answer = loadAnswer (r .answer); after = sessionIn (r .state) (now (table .exit)) (now (row .exit)) (now (used .exit)) (now (births .exit)) (now (order .exit)) (now (tree1 .exit)) (now (tree2 .exit)) (now (tree3 .exit)) } ≡ settle (sessionIn st (now (table .entry)) (now (row .entry)) (now (used .entry)) (now (births .entry)) (now (order .entry)) (now (tree1 .entry)) (now (tree2 .entry)) (now (tree3 .entry))) (openedWith (networkOf n (now (links .entry)) root first last) (now (ducts .entry))) (loading (networkOf n (now (links .entry)) root first last)) ⌝ }
     ensures { λ r. ⌜ KeepsIndex st (now (table .entry)) (now (index .entry)) (loadAnswer (r .answer)) (r .state) (now (table .exit)) (now (index .exit)) ⌝ }
 {
     let answer = check_load(n, links, root, first, last);
@@ -169,10 +190,12 @@ fn load_empty(
             let state = store_network(
                 n,
                 links,
+                ducts,
                 root,
                 first,
                 last,
                 table,
+                row,
                 used,
                 births,
                 order,
@@ -186,15 +209,17 @@ fn load_empty(
     }
 }
 
-// Loads a network into an empty session, with its index: 20 on any other, then checks 1 to 6.
+// Loads a network into an empty session, with the ducts of its links and its index: 20 on any other, then checks 1 to 6.
 pub fn load(
     st: State,
     n: u16,
     links: &[u16],
+    ducts: &[u8],
     root: u16,
     first: u16,
     last: u16,
     table: &mut [u16],
+    row: &mut [u8],
     used: &mut [u8],
     births: &mut [u16],
     order: &mut [u16],
@@ -203,8 +228,8 @@ pub fn load(
     tree3: &mut [u16],
     index: &mut [u16],
 ) -> LoadedIn
-    requires { ⌜ SizedAs (now table) (now used) (now births) (now order) (now tree1) (now tree2) (now tree3) ⌝ }
-    ensures { λ r. ⌜ LoadsIn (sessionIn st (now (table .entry)) (now (used .entry)) (now (births .entry)) (now (order .entry)) (now (tree1 .entry)) (now (tree2 .entry)) (now (tree3 .entry))) (networkOf n (now (links .entry)) root first last) r (sessionIn (r .state) (now (table .exit)) (now (used .exit)) (now (births .exit)) (now (order .exit)) (now (tree1 .exit)) (now (tree2 .exit)) (now (tree3 .exit))) ⌝ }
+    requires { ⌜ SizedAs (now table) (now row) (now used) (now births) (now order) (now tree1) (now tree2) (now tree3) ⌝ }
+    ensures { λ r. ⌜ LoadsIn (sessionIn st (now (table .entry)) (now (row .entry)) (now (used .entry)) (now (births .entry)) (now (order .entry)) (now (tree1 .entry)) (now (tree2 .entry)) (now (tree3 .entry))) (networkOf n (now (links .entry)) root first last) (now (ducts .entry)) r (sessionIn (r .state) (now (table .exit)) (now (row .exit)) (now (used .exit)) (now (births .exit)) (now (order .exit)) (now (tree1 .exit)) (now (tree2 .exit)) (now (tree3 .exit))) ⌝ }
     ensures { λ r. ⌜ KeepsIndex st (now (table .entry)) (now (index .entry)) (loadAnswer (r .answer)) (r .state) (now (table .exit)) (now (index .exit)) ⌝ }
 {
     let stage = st.stage;
@@ -213,10 +238,12 @@ pub fn load(
             st,
             n,
             links,
+            ducts,
             root,
             first,
             last,
             table,
+            row,
             used,
             births,
             order,

@@ -17,43 +17,43 @@ use Rattle.offering.specs.declared.Part.{Part}
 use Rattle.offering.specs.Offering.{PartOf}
 
 -- k ears of the list are accepted, which reach place `next` of it and the session s
-pub record Reaches (l : List ℕ) (s₀ s : List ℕ → Session) (k next : ℕ) : Type 0 where
-  pub left : (tree3 : List ℕ) → listedBy (s₀ tree3) l ≡ offeringFrom offeredBy k (s tree3) (earsIn (drop next l))
+pub record Reaches (l : List ℕ) (s₀ s : List ℕ → List ℕ → Session) (k next : ℕ) : Type 0 where
+  pub left : (ducts tree3 : List ℕ) → listedBy (s₀ ducts tree3) l ≡ offeringFrom offeredBy k (s ducts tree3) (earsIn (drop next l))
   pub within : next ≤ length l
   pub counted : k ≤ next
 
-pub reaches-begin : (l : List ℕ) (s : List ℕ → Session) → Reaches l s s 0 0
+pub reaches-begin : (l : List ℕ) (s : List ℕ → List ℕ → Session) → Reaches l s s 0 0
 unfolding listedBy
-reaches-begin l s = record { left = λ tree3. refl; within = omega arith; counted = omega arith }
+reaches-begin l s = record { left = λ ducts tree3. refl; within = omega arith; counted = omega arith }
 
-module _ (l : List ℕ) (s₀ s : List ℕ → Session) (k next : ℕ) (r : Reaches l s₀ s k next) where
-  pub reaches-all : length l ≤ next → (tree3 : List ℕ) → record { answer = allAccepted k; after = s tree3 } ≡ listedBy (s₀ tree3) l
+module _ (l : List ℕ) (s₀ s : List ℕ → List ℕ → Session) (k next : ℕ) (r : Reaches l s₀ s k next) where
+  pub reaches-all : length l ≤ next → (ducts tree3 : List ℕ) → record { answer = allAccepted k; after = s ducts tree3 } ≡ listedBy (s₀ ducts tree3) l
   unfolding offeringFrom earsFrom
-  reaches-all h tree3 =
-      sym (r .left tree3
-      ∙ ap (λ (x : List ℕ). offeringFrom offeredBy k (s tree3) (earsIn x)) (ap (λ (i : ℕ). drop i l) (let z : next ≡ length l = omega (arith, r .within) in z) ∙ drop-length l))
+  reaches-all h ducts tree3 =
+      sym (r .left ducts tree3
+      ∙ ap (λ (x : List ℕ). offeringFrom offeredBy k (s ducts tree3) (earsIn x)) (ap (λ (i : ℕ). drop i l) (let z : next ≡ length l = omega (arith, r .within) in z) ∙ drop-length l))
 
   -- the ear at that place is offered, and leaves s′
-  module _ (p : Part) (at-part : PartOf l next p) (s′ : List ℕ → Session) where
+  module _ (p : Part) (at-part : PartOf l next p) (s′ : List ℕ → List ℕ → Session) where
     abbrev ear : List ℕ
     ear = take (p .end - p .start) (drop (p .start) l)
 
-    next-ear : (tree3 : List ℕ) → listedBy (s₀ tree3) l ≡ offeringFrom offeredBy k (s tree3) (ear ∷ earsIn (drop (p .next) l))
-    next-ear tree3 = r .left tree3 ∙ ap (offeringFrom offeredBy k (s tree3)) (at-part .ears)
+    next-ear : (ducts tree3 : List ℕ) → listedBy (s₀ ducts tree3) l ≡ offeringFrom offeredBy k (s ducts tree3) (ear ∷ earsIn (drop (p .next) l))
+    next-ear ducts tree3 = r .left ducts tree3 ∙ ap (offeringFrom offeredBy k (s ducts tree3)) (at-part .ears)
 
-    pub reaches-more : {vs : List ℕ} → ((tree3 : List ℕ) → record { answer = given vs; after = s′ tree3 } ≡ offeredBy (s tree3) ear) → Reaches l s₀ s′ (k + 1) (p .next)
+    pub reaches-more : {vs : List ℕ} → ((ducts tree3 : List ℕ) → record { answer = given vs; after = s′ ducts tree3 } ≡ offeredBy (s ducts tree3) ear) → Reaches l s₀ s′ (k + 1) (p .next)
     reaches-more q =
         record {
-          left = λ tree3.
-              next-ear tree3 ∙ offering-next offeredBy k (s tree3) ear _ (sym (q tree3))
-              ∙ ap (λ (j : ℕ). offeringFrom offeredBy j (s′ tree3) (earsIn (drop (p .next) l))) (let z : suc k ≡ k + 1 = omega arith in z);
+          left = λ ducts tree3.
+              next-ear ducts tree3 ∙ offering-next offeredBy k (s ducts tree3) ear _ (sym (q ducts tree3))
+              ∙ ap (λ (j : ℕ). offeringFrom offeredBy j (s′ ducts tree3) (earsIn (drop (p .next) l))) (let z : suc k ≡ k + 1 = omega arith in z);
           within = at-part .within;
           counted = omega (arith, r .counted, at-part .later);
         }
 
-    pub reaches-end : {num place : ℕ} → ((tree3 : List ℕ) → record { answer = refused num place; after = s′ tree3 } ≡ offeredBy (s tree3) ear)
-        → (tree3 : List ℕ) → record { answer = nextRefused k num place; after = s′ tree3 } ≡ listedBy (s₀ tree3) l
-    reaches-end q tree3 = sym (next-ear tree3 ∙ offering-ends offeredBy k (s tree3) ear _ (sym (q tree3)))
+    pub reaches-end : {num place : ℕ} → ((ducts tree3 : List ℕ) → record { answer = refused num place; after = s′ ducts tree3 } ≡ offeredBy (s ducts tree3) ear)
+        → (ducts tree3 : List ℕ) → record { answer = nextRefused k num place; after = s′ ducts tree3 } ≡ listedBy (s₀ ducts tree3) l
+    reaches-end q ducts tree3 = sym (next-ear ducts tree3 ∙ offering-ends offeredBy k (s ducts tree3) ear _ (sym (q ducts tree3)))
 
 -- an ear leaves the count of links
 pub same-m : (s s′ : Session) (e : List ℕ) {a : Answer} → record { answer = a; after = s′ } ≡ offeredBy s e → s′ .m ≡ s .m

@@ -27,8 +27,8 @@ pub record PartOf (l : List ℕ) (from : ℕ) (r : Part) : Type 0 where
   pub later : from < r .next
   pub within : r .next ≤ length l
 
--- a list of ears, whatever tree 3 holds
+-- a list of ears, whatever the ducts and tree 3 hold
 abbrev pub ListsIn : State → List ℕ → List ℕ → List ℕ → List ℕ → List ℕ → List ℕ → List ℕ → ListedIn → List ℕ → List ℕ → List ℕ → List ℕ → List ℕ → Type 0
 ListsIn st links used births order tree1 tree2 l r used′ births′ order′ tree1′ tree2′ =
-    (tree3 : List ℕ) → record { answer = earsAnswer (r .answer); after = sessionIn (r .state) links used′ births′ order′ tree1′ tree2′ tree3 }
-    ≡ listedBy (sessionIn st links used births order tree1 tree2 tree3) l
+    (ducts tree3 : List ℕ) → record { answer = earsAnswer (r .answer); after = sessionIn (r .state) links ducts used′ births′ order′ tree1′ tree2′ tree3 }
+    ≡ listedBy (sessionIn st links ducts used births order tree1 tree2 tree3) l

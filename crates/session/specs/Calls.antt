@@ -19,7 +19,7 @@ use Rattle.session.specs.declared.Bringing.{Bringing}
 
 -- one call
 unfoldable pub called : Session → Call → Outcome Session
-called s (load net) = loadedBy s net
+called s (load net ducts) = loadedBy s net ducts
 called s (ear e) = offeredBy s e
 called s (ears l) = listedBy s l
 called s (close rule) = closedBy rule s

@@ -32,5 +32,5 @@ zonedBy s n₁ n₂ n₃ out = written (zonesIn s n₁ n₂) out (byStage (s .st
 -- the call in place, whatever the arrays beside births and order hold
 abbrev pub ZonesIn : State → List ℕ → List ℕ → ℕ → ℕ → ℕ → List ℕ → Zoned → List ℕ → Type 0
 ZonesIn st births order n₁ n₂ n₃ out r out′ =
-    (links used tree1 tree2 tree3 : List ℕ)
-    → record { answer = zonedAnswer r; after = out′ } ≡ zonedBy (sessionIn st links used births order tree1 tree2 tree3) n₁ n₂ n₃ out
+    (links ducts used tree1 tree2 tree3 : List ℕ)
+    → record { answer = zonedAnswer r; after = out′ } ≡ zonedBy (sessionIn st links ducts used births order tree1 tree2 tree3) n₁ n₂ n₃ out

@@ -51,7 +51,7 @@ returns c =
     let set : at-set-tree3 .set-tree3 .last .0 ≡ tree3Of shortest (networkOf (a .st .n) (take (at-least .least .result) (a .links .now)) (a .st .root) 0 (a .st .last)) (a .births .now) (a .tree3 .now) =
     at-set-tree3 .set-tree3 .ensures in
     closed-brought (a .st) (a .links .now) (a .births .now) (a .tree3 .now) (begin .pre .0) refl
-    (λ used order tree1 tree2. set ∙ tree3-lent (held (a .st) (a .links .now) (a .births .now) (a .tree3 .now) used order tree1 tree2) (at-least .least .ensures))
+    (λ ducts used order tree1 tree2. set ∙ tree3-lent (held (a .st) (a .links .now) (a .births .now) (a .tree3 .now) ducts used order tree1 tree2) (at-least .least .ensures))
 
 pub bring-closed-spec : {M : Type 1} → statement M
 bring-closed-spec =

@@ -13,16 +13,16 @@ use Rattle.in_place.proofs.close.Statement.{statement}
 use Rattle.in_place.proofs.close.Tie as tie
 
 -- the session that the lent arrays hold, with the order and trees 1 and 2 whatever they are
-abbrev held : tie.Start → List ℕ → List ℕ → List ℕ → Session
-held c order tree1 tree2 =
+abbrev held : tie.Start → List ℕ → List ℕ → List ℕ → List ℕ → Session
+held c ducts order tree1 tree2 =
     let a = c .args in
-    sessionIn (a .st) (a .links .now) (a .used .now) (a .births .now) order tree1 tree2 (a .tree3 .now)
+    sessionIn (a .st) (a .links .now) ducts (a .used .now) (a .births .now) order tree1 tree2 (a .tree3 .now)
 
 -- what a refusal leaves
-abbrev left : tie.Start → List ℕ → List ℕ → List ℕ → ClosedIn → Outcome Session
-left c order tree1 tree2 r =
+abbrev left : tie.Start → List ℕ → List ℕ → List ℕ → List ℕ → ClosedIn → Outcome Session
+left c ducts order tree1 tree2 r =
     let a = c .args in
-    record { answer = closeAnswer (r .answer); after = sessionIn (r .state) (a .links .now) (a .used .now) (a .births .now) order tree1 tree2 (a .tree3 .now) }
+    record { answer = closeAnswer (r .answer); after = sessionIn (r .state) (a .links .now) ducts (a .used .now) (a .births .now) order tree1 tree2 (a .tree3 .now) }
 
 enum-told : tie.Need-enum-told
 enum-told c = search needs
@@ -46,8 +46,8 @@ returns : tie.Need-returns
 unfolding closedBy
 returns c =
     let start = c .before .before .before .before .before .before .before in
-    λ order tree1 tree2. ap (left start order tree1 tree2) (c .close-refused .ensures) ∙ after-refused (held start order tree1 tree2) _ refl
-    ∙ ap (settle (held start order tree1 tree2) _) (sym (on-empty _ _ _ (c .before .enum-told .given .1)))
+    λ ducts order tree1 tree2. ap (left start ducts order tree1 tree2) (c .close-refused .ensures) ∙ after-refused (held start ducts order tree1 tree2) _ refl
+    ∙ ap (settle (held start ducts order tree1 tree2) _) (sym (on-empty _ _ _ (c .before .enum-told .given .1)))
 
 same-length : tie.Need-same-length
 same-length c = search needs
@@ -58,15 +58,15 @@ returns-2 c =
     let at-close-open = c .before .before in
     let at-told = at-close-open .before .before in
     let start = at-told .before .before .before .before .before .before in
-    λ order tree1 tree2. at-close-open .close-open .ensures order tree1 tree2
-    ∙ ap (settle (held start order tree1 tree2) _) (sym (on-open _ _ _ (at-told .enum-told2 .given .1)))
+    λ ducts order tree1 tree2. at-close-open .close-open .ensures ducts order tree1 tree2
+    ∙ ap (settle (held start ducts order tree1 tree2) _) (sym (on-open _ _ _ (at-told .enum-told2 .given .1)))
 
 returns-3 : tie.Need-returns-3
 unfolding closedBy
 returns-3 c =
     let start = c .before .before .before .before .before .before .before in
-    λ order tree1 tree2. ap (left start order tree1 tree2) (c .close-refused2 .ensures) ∙ after-refused (held start order tree1 tree2) _ refl
-    ∙ ap (settle (held start order tree1 tree2) _) (sym (on-closed _ _ _ (c .before .enum-told3 .given .1)))
+    λ ducts order tree1 tree2. ap (left start ducts order tree1 tree2) (c .close-refused2 .ensures) ∙ after-refused (held start ducts order tree1 tree2) _ refl
+    ∙ ap (settle (held start ducts order tree1 tree2) _) (sym (on-closed _ _ _ (c .before .enum-told3 .given .1)))
 
 pub close-spec : {M : Type 1} → statement M
 close-spec =

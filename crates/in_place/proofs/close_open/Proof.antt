@@ -19,16 +19,16 @@ abbrev before-least : tie.After-least → tie.Start
 before-least c = c .before .before .before .before .before .before
 
 -- the session that the lent arrays hold, with the order and trees 1 and 2 whatever they are
-abbrev held : tie.Start → List ℕ → List ℕ → List ℕ → Session
-held c order tree1 tree2 =
+abbrev held : tie.Start → List ℕ → List ℕ → List ℕ → List ℕ → Session
+held c ducts order tree1 tree2 =
     let a = c .args in
-    sessionIn (a .st) (a .links .now) (a .used .now) (a .births .now) order tree1 tree2 (a .tree3 .now)
+    sessionIn (a .st) (a .links .now) ducts (a .used .now) (a .births .now) order tree1 tree2 (a .tree3 .now)
 
 -- what is left, with this row for tree 3
-abbrev left : tie.Start → List ℕ → List ℕ → List ℕ → List ℕ → ClosedIn → Outcome Session
-left c order tree1 tree2 tree3 r =
+abbrev left : tie.Start → List ℕ → List ℕ → List ℕ → List ℕ → List ℕ → ClosedIn → Outcome Session
+left c ducts order tree1 tree2 tree3 r =
     let a = c .args in
-    record { answer = closeAnswer (r .answer); after = sessionIn (r .state) (a .links .now) (a .used .now) (a .births .now) order tree1 tree2 tree3 }
+    record { answer = closeAnswer (r .answer); after = sessionIn (r .state) (a .links .now) ducts (a .used .now) (a .births .now) order tree1 tree2 tree3 }
 
 cast-least : tie.Need-cast-least
 cast-least c = search needs
@@ -81,9 +81,9 @@ returns c =
     let at-check = at-answer .before .before in
     let at-least = at-check .before .before in
     let start = before-least at-least in
-    λ order tree1 tree2. ap (left start order tree1 tree2 (start .args .tree3 .now)) (c .close-refused .ensures)
-    ∙ after-refused (held start order tree1 tree2) _
-    (sym (closing-lent (held start order tree1 tree2) (at-least .least .ensures))
+    λ ducts order tree1 tree2. ap (left start ducts order tree1 tree2 (start .args .tree3 .now)) (c .close-refused .ensures)
+    ∙ after-refused (held start ducts order tree1 tree2) _
+    (sym (closing-lent (held start ducts order tree1 tree2) (at-least .least .ensures))
     ∙ sym (at-check .check-used .ensures)
     ∙ ap closeAnswer (at-answer .answer .given .1))
 
@@ -97,12 +97,12 @@ returns-2 c =
     let at-check = at-told .before .before in
     let at-least = at-check .before .before in
     let start = before-least at-least in
-    λ order tree1 tree2. ap (left start order tree1 tree2 _) (c .closed .ensures)
-    ∙ after-given (held start order tree1 tree2) _
-    (sym (closing-lent (held start order tree1 tree2) (at-least .least .ensures))
+    λ ducts order tree1 tree2. ap (left start ducts order tree1 tree2 _) (c .closed .ensures)
+    ∙ after-given (held start ducts order tree1 tree2) _
+    (sym (closing-lent (held start ducts order tree1 tree2) (at-least .least .ensures))
     ∙ sym (at-check .check-used .ensures)
     ∙ ap closeAnswer (at-told .enum-told .given .1))
-    (ap (closedWith (held start order tree1 tree2)) (at-set-tree3 .set-tree3 .ensures ∙ tree3-lent (held start order tree1 tree2) (at-least .least .ensures)))
+    (ap (closedWith (held start ducts order tree1 tree2)) (at-set-tree3 .set-tree3 .ensures ∙ tree3-lent (held start ducts order tree1 tree2) (at-least .least .ensures)))
 
 pub close-open-spec : {M : Type 1} → statement M
 close-open-spec =

@@ -26,16 +26,16 @@ abbrev at-offer-open : tie.After-slice-known10 → tie.After-offer-open
 at-offer-open c = c .before .before .before .before .before .before .before .before .before .before
 
 -- the session that the lent arrays hold, with tree 3 whatever it is
-abbrev held : tie.Start → List ℕ → Session
-held c tree3 =
+abbrev held : tie.Start → List ℕ → List ℕ → Session
+held c ducts tree3 =
     let a = c .args in
-    sessionIn (a .st) (a .links .now) (a .used .now) (a .births .now) (a .order .now) (a .tree1 .now) (a .tree2 .now) tree3
+    sessionIn (a .st) (a .links .now) ducts (a .used .now) (a .births .now) (a .order .now) (a .tree1 .now) (a .tree2 .now) tree3
 
 -- what a refusal leaves
-abbrev left : tie.Start → List ℕ → OfferedIn → Outcome Session
-left c tree3 r =
+abbrev left : tie.Start → List ℕ → List ℕ → OfferedIn → Outcome Session
+left c ducts tree3 r =
     let a = c .args in
-    record { answer = earAnswer (r .answer); after = sessionIn (r .state) (a .links .now) (a .used .now) (a .births .now) (a .order .now) (a .tree1 .now) (a .tree2 .now) tree3 }
+    record { answer = earAnswer (r .answer); after = sessionIn (r .state) (a .links .now) ducts (a .used .now) (a .births .now) (a .order .now) (a .tree1 .now) (a .tree2 .now) tree3 }
 
 enum-told : tie.Need-enum-told
 enum-told c = search needs
@@ -59,8 +59,8 @@ returns : tie.Need-returns
 unfolding offeredBy
 returns c =
     let start = before-match (c .before .before) in
-    λ tree3. ap (left start tree3) (c .ear-refused .ensures) ∙ after-refused (held start tree3) _ refl
-    ∙ ap (settle (held start tree3) _) (sym (on-empty _ _ _ (c .before .enum-told .given .1)))
+    λ ducts tree3. ap (left start ducts tree3) (c .ear-refused .ensures) ∙ after-refused (held start ducts tree3) _ refl
+    ∙ ap (settle (held start ducts tree3) _) (sym (on-empty _ _ _ (c .before .enum-told .given .1)))
 
 same-length : tie.Need-same-length
 same-length c = at-offer-open c .offer-open .kept .1 .1 .1 .0
@@ -82,14 +82,14 @@ unfolding offeredBy
 returns-2 c =
     let at-told = at-offer-open c .before .before .before .before .before .before in
     let start = before-match2 (at-told .before) in
-    λ tree3. at-offer-open c .offer-open .ensures tree3 ∙ ap (settle (held start tree3) _) (sym (on-open _ _ _ (at-told .enum-told2 .given .1)))
+    λ ducts tree3. at-offer-open c .offer-open .ensures ducts tree3 ∙ ap (settle (held start ducts tree3) _) (sym (on-open _ _ _ (at-told .enum-told2 .given .1)))
 
 returns-3 : tie.Need-returns-3
 unfolding offeredBy
 returns-3 c =
     let start = before-match3 (c .before .before) in
-    λ tree3. ap (left start tree3) (c .ear-refused2 .ensures) ∙ after-refused (held start tree3) _ refl
-    ∙ ap (settle (held start tree3) _) (sym (on-closed _ _ _ (c .before .enum-told3 .given .1)))
+    λ ducts tree3. ap (left start ducts tree3) (c .ear-refused2 .ensures) ∙ after-refused (held start ducts tree3) _ refl
+    ∙ ap (settle (held start ducts tree3) _) (sym (on-closed _ _ _ (c .before .enum-told3 .given .1)))
 
 pub ear-spec : {M : Type 1} → statement M
 ear-spec =

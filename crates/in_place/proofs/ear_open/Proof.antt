@@ -23,16 +23,16 @@ abbrev at-accept : tie.After-slice-known10 → tie.After-accept
 at-accept c = c .before .before .before .before .before .before .before .before .before .before
 
 -- the session that the lent arrays hold, with tree 3 whatever it is
-abbrev held : tie.Start → List ℕ → Session
-held c tree3 =
+abbrev held : tie.Start → List ℕ → List ℕ → Session
+held c ducts tree3 =
     let a = c .args in
-    sessionIn (a .st) (a .links .now) (a .used .now) (a .births .now) (a .order .now) (a .tree1 .now) (a .tree2 .now) tree3
+    sessionIn (a .st) (a .links .now) ducts (a .used .now) (a .births .now) (a .order .now) (a .tree1 .now) (a .tree2 .now) tree3
 
 -- what a refusal leaves
-abbrev left : tie.Start → List ℕ → OfferedIn → Outcome Session
-left c tree3 r =
+abbrev left : tie.Start → List ℕ → List ℕ → OfferedIn → Outcome Session
+left c ducts tree3 r =
     let a = c .args in
-    record { answer = earAnswer (r .answer); after = sessionIn (r .state) (a .links .now) (a .used .now) (a .births .now) (a .order .now) (a .tree1 .now) (a .tree2 .now) tree3 }
+    record { answer = earAnswer (r .answer); after = sessionIn (r .state) (a .links .now) ducts (a .used .now) (a .births .now) (a .order .now) (a .tree1 .now) (a .tree2 .now) tree3 }
 
 cast-least : tie.Need-cast-least
 cast-least c = search needs
@@ -88,9 +88,9 @@ returns c =
     let at-judge = at-answer .before .before in
     let at-least = before-judge at-judge in
     let start = before-least at-least in
-    λ tree3. ap (left start tree3) (c .ear-refused .ensures)
-    ∙ after-refused (held start tree3) _
-    (sym (verdict-lent (held start tree3) (at-least .least .ensures) (start .args .ear .now))
+    λ ducts tree3. ap (left start ducts tree3) (c .ear-refused .ensures)
+    ∙ after-refused (held start ducts tree3) _
+    (sym (verdict-lent (held start ducts tree3) (at-least .least .ensures) (start .args .ear .now))
     ∙ sym (at-judge .judge .ensures)
     ∙ ap earAnswer (at-answer .answer .given .1))
 
@@ -115,11 +115,11 @@ returns-2 c =
     let at-judge = at-answer .before .before in
     let at-least = before-judge at-judge in
     let start = before-least at-least in
-    λ tree3. after-given (held start tree3) _
-    (sym (verdict-lent (held start tree3) (at-least .least .ensures) (start .args .ear .now))
+    λ ducts tree3. after-given (held start ducts tree3) _
+    (sym (verdict-lent (held start ducts tree3) (at-least .least .ensures) (start .args .ear .now))
     ∙ sym (at-judge .judge .ensures)
     ∙ ap earAnswer (at-answer .answer2 .given .1))
-    (ap (withTables (held start tree3)) (at-accept c .accept .ensures ∙ after-lent (held start tree3) (at-least .least .ensures) (start .args .ear .now)))
+    (ap (withTables (held start ducts tree3)) (at-accept c .accept .ensures ∙ after-lent (held start ducts tree3) (at-least .least .ensures) (start .args .ear .now)))
 
 pub ear-open-spec : {M : Type 1} → statement M
 ear-open-spec =

@@ -17,10 +17,10 @@ abbrev before-least : tie.After-least → tie.After-is-empty
 before-least c = c .before .before .before
 
 -- the session that the lent arrays hold, with tree 3 whatever it is
-abbrev held : tie.Start → List ℕ → Session
-held c tree3 =
+abbrev held : tie.Start → List ℕ → List ℕ → Session
+held c ducts tree3 =
     let a = c .args in
-    sessionIn (a .st) (a .links .now) (a .used .now) (a .births .now) (a .order .now) (a .tree1 .now) (a .tree2 .now) tree3
+    sessionIn (a .st) (a .links .now) ducts (a .used .now) (a .births .now) (a .order .now) (a .tree1 .now) (a .tree2 .now) tree3
 
 is-empty-requires : tie.Need-is-empty-requires
 is-empty-requires c κs = search needs
@@ -55,8 +55,8 @@ returns c =
     let at-empty = before-least at-least in
     let start = before-empty at-empty in
     let is-empty = sym (at-empty .is-empty .ensures) ∙ at-least .before .before .if1 .taken in
-    λ tree3.
-    let s = held start tree3 in
+    λ ducts tree3.
+    let s = held start ducts tree3 in
     let e = start .args .ear .now in
     after-given s _ (empty-given s e is-empty) (ap (withTables s) (after-empty s (at-least .least .ensures) e is-empty (at-take .take-left-over .ensures)))
 
@@ -83,7 +83,7 @@ returns-2 c =
     let at-ear = c .before .before .before .before .before .before .before .before .before .before in
     let at-else = at-ear .before .before .before .before .before .before in
     let start = before-empty (at-else .before) in
-    λ tree3. at-ear .ear-open .ensures tree3 ∙ as-judged (held start tree3) (start .args .ear .now) (sym (at-else .before .is-empty .ensures) ∙ at-else .if1 .left)
+    λ ducts tree3. at-ear .ear-open .ensures ducts tree3 ∙ as-judged (held start ducts tree3) (start .args .ear .now) (sym (at-else .before .is-empty .ensures) ∙ at-else .if1 .left)
 
 pub enter-open-spec : {M : Type 1} → statement M
 enter-open-spec =

@@ -27,10 +27,10 @@ abbrev before-link : tie.After-short-link → tie.After-least
 before-link c = c .before .before .before .before .before
 
 -- the session that the lent arrays hold, with tree 3 whatever it is
-abbrev held : tie.Start → List ℕ → Session
-held c tree3 =
+abbrev held : tie.Start → List ℕ → List ℕ → Session
+held c ducts tree3 =
     let a = c .args in
-    sessionIn (a .st) (a .links .now) (a .used .now) (a .births .now) (a .order .now) (a .tree1 .now) (a .tree2 .now) tree3
+    sessionIn (a .st) (a .links .now) ducts (a .used .now) (a .births .now) (a .order .now) (a .tree1 .now) (a .tree2 .now) tree3
 
 -- what is known of the ear where its link was found
 passed : (c : tie.Then1) → let at-least = before-link (c .before) in let a = before-least at-least .args in let table = take (at-least .least .result) (a .links .now) in let e = a .ear .now in
@@ -84,8 +84,8 @@ returns c =
     let start = before-least at-least in
     let a = start .args in
     let (later, two, link, given-0) = passed at-then in
-    λ tree3.
-    let s = held start tree3 in
+    λ ducts tree3.
+    let s = held start ducts tree3 in
     let e = a .ear .now in
     after-given s _
     (sym (verdict-lent s (at-least .least .ensures) e)

@@ -13,10 +13,10 @@ use Rattle.in_place.proofs.parent.Statement.{statement}
 use Rattle.in_place.proofs.parent.Tie as tie
 
 -- the session that the lent rows hold, with the other arrays whatever they are
-abbrev held : tie.Start → List ℕ → List ℕ → List ℕ → List ℕ → Session
-held c links used births order =
+abbrev held : tie.Start → List ℕ → List ℕ → List ℕ → List ℕ → List ℕ → Session
+held c links ducts used births order =
     let a = c .args in
-    sessionIn (a .st) links used births order (a .tree1 .now) (a .tree2 .now) (a .tree3 .now)
+    sessionIn (a .st) links ducts used births order (a .tree1 .now) (a .tree2 .now) (a .tree3 .now)
 
 -- the way back from a place to the one before it that is cited
 abbrev before-told : tie.After-enum-told → tie.Start
@@ -37,16 +37,16 @@ enum-told-4 c = search needs
 returns : tie.Need-returns
 returns c =
     let start = c .before .before .before .before .before .before in
-    λ links used births order. parent-empty (held start links used births order) _ _ (c .enum-told2 .given .1)
+    λ links ducts used births order. parent-empty (held start links ducts used births order) _ _ (c .enum-told2 .given .1)
 
 returns-2 : tie.Need-returns-2
 returns-2 c =
     let start = c .before .before .before .before .before .before in
-    λ links used births order. parent-open (held start links used births order) _ _ (c .enum-told3 .given .1)
+    λ links ducts used births order. parent-open (held start links ducts used births order) _ _ (c .enum-told3 .given .1)
 
 returns-3 : tie.Need-returns-3
 returns-3 c =
-    λ links used births order. absurd (⊎-elim (λ e. omega arith) (λ e. omega arith) (rw (c .enum-told4 .given .1) at (c .before .before .match .keys2)))
+    λ links ducts used births order. absurd (⊎-elim (λ e. omega arith) (λ e. omega arith) (rw (c .enum-told4 .given .1) at (c .before .before .match .keys2)))
 
 unknown-requires : tie.Need-unknown-requires
 unknown-requires c κs = search needs
@@ -56,7 +56,7 @@ returns-4 c =
     let at-unknown = c .before in
     let at-told = at-unknown .before in
     let start = before-told at-told in
-    λ links used births order. parent-unknown (held start links used births order) _ _ (at-told .enum-told .given .1)
+    λ links ducts used births order. parent-unknown (held start links ducts used births order) _ _ (at-told .enum-told .given .1)
     (sym (at-unknown .unknown .ensures) ∙ c .if1 .taken)
 
 entry-requires : tie.Need-entry-requires
@@ -69,7 +69,7 @@ returns-5 c =
     let at-told = at-unknown .before in
     let start = before-told at-told in
     let a = start .args in
-    λ links used births order. let s = held start links used births order in
+    λ links ducts used births order. let s = held start links ducts used births order in
     ap (λ (x : ℕ). given (x ∷ [])) (c .entry .ensures ∙ ap (λ (row : List ℕ). at row (a .switch)) (tree-1 s (a .tree) (c .before .if2 .taken)))
     ∙ parent-entry s (a .switch) (a .tree) (at-told .enum-told .given .1) (sym (at-unknown .unknown .ensures) ∙ at-if1 .if1 .left)
 
@@ -83,7 +83,7 @@ returns-6 c =
     let at-told = at-unknown .before in
     let start = before-told at-told in
     let a = start .args in
-    λ links used births order. let s = held start links used births order in
+    λ links ducts used births order. let s = held start links ducts used births order in
     ap (λ (x : ℕ). given (x ∷ [])) (c .entry2 .ensures ∙ ap (λ (row : List ℕ). at row (a .switch)) (tree-2 s (a .tree) (c .before .before .if2 .left) (c .before .if3 .taken)))
     ∙ parent-entry s (a .switch) (a .tree) (at-told .enum-told .given .1) (sym (at-unknown .unknown .ensures) ∙ at-if1 .if1 .left)
 
@@ -97,7 +97,7 @@ returns-7 c =
     let at-told = at-unknown .before in
     let start = before-told at-told in
     let a = start .args in
-    λ links used births order. let s = held start links used births order in
+    λ links ducts used births order. let s = held start links ducts used births order in
     ap (λ (x : ℕ). given (x ∷ [])) (c .entry3 .ensures ∙ ap (λ (row : List ℕ). at row (a .switch)) (tree-3 s (a .tree) (c .before .before .if2 .left) (c .before .if3 .left)))
     ∙ parent-entry s (a .switch) (a .tree) (at-told .enum-told .given .1) (sym (at-unknown .unknown .ensures) ∙ at-if1 .if1 .left)
 

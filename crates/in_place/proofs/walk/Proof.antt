@@ -11,10 +11,10 @@ use Rattle.in_place.proofs.walk.Statement.{statement}
 use Rattle.in_place.proofs.walk.Tie as tie
 
 -- the session that the lent rows hold, with the other arrays whatever they are
-abbrev held : tie.Start → List ℕ → List ℕ → List ℕ → List ℕ → Session
-held c links used births order =
+abbrev held : tie.Start → List ℕ → List ℕ → List ℕ → List ℕ → List ℕ → Session
+held c links ducts used births order =
     let a = c .args in
-    sessionIn (a .st) links used births order (a .tree1 .now) (a .tree2 .now) (a .tree3 .now)
+    sessionIn (a .st) links ducts used births order (a .tree1 .now) (a .tree2 .now) (a .tree3 .now)
 
 -- the way back from a place to the one before it that is cited
 abbrev before-told : tie.After-enum-told → tie.Start
@@ -35,16 +35,16 @@ enum-told-4 c = search needs
 returns : tie.Need-returns
 returns c =
     let start = c .before .before .before .before .before .before .before in
-    λ links used births order. walk-empty (held start links used births order) _ _ _ (c .enum-told2 .given .1)
+    λ links ducts used births order. walk-empty (held start links ducts used births order) _ _ _ (c .enum-told2 .given .1)
 
 returns-2 : tie.Need-returns-2
 returns-2 c =
     let start = c .before .before .before .before .before .before .before in
-    λ links used births order. walk-open (held start links used births order) _ _ _ (c .enum-told3 .given .1)
+    λ links ducts used births order. walk-open (held start links ducts used births order) _ _ _ (c .enum-told3 .given .1)
 
 returns-3 : tie.Need-returns-3
 returns-3 c =
-    λ links used births order. absurd (⊎-elim (λ e. omega arith) (λ e. omega arith) (rw (c .enum-told4 .given .1) at (c .before .before .match .keys2)))
+    λ links ducts used births order. absurd (⊎-elim (λ e. omega arith) (λ e. omega arith) (rw (c .enum-told4 .given .1) at (c .before .before .match .keys2)))
 
 unknown-requires : tie.Need-unknown-requires
 unknown-requires c κs = search needs
@@ -54,7 +54,7 @@ returns-4 c =
     let at-unknown = c .before in
     let at-told = at-unknown .before in
     let start = before-told at-told in
-    λ links used births order. walk-unknown (held start links used births order) _ _ _ (at-told .enum-told .given .1)
+    λ links ducts used births order. walk-unknown (held start links ducts used births order) _ _ _ (at-told .enum-told .given .1)
     (sym (at-unknown .unknown .ensures) ∙ c .if1 .taken)
 
 walk-by-requires : tie.Need-walk-by-requires
@@ -70,7 +70,7 @@ returns-5 c =
     let at-told = at-unknown .before in
     let start = before-told at-told in
     let a = start .args in
-    λ links used births order. let s = held start links used births order in
+    λ links ducts used births order. let s = held start links ducts used births order in
     walk-known s (a .switch) (a .tree) (a .out .now) (at-told .enum-told .given .1) (sym (at-unknown .unknown .ensures) ∙ at-if1 .if1 .left)
     (tree-1 s (a .tree) (c .before .before .before .before .if2 .taken)) (c .before .before .walk-by .ensures)
 
@@ -87,7 +87,7 @@ returns-6 c =
     let at-told = at-unknown .before in
     let start = before-told at-told in
     let a = start .args in
-    λ links used births order. let s = held start links used births order in
+    λ links ducts used births order. let s = held start links ducts used births order in
     walk-known s (a .switch) (a .tree) (a .out .now) (at-told .enum-told .given .1) (sym (at-unknown .unknown .ensures) ∙ at-if1 .if1 .left)
     (tree-2 s (a .tree) (c .before .before .before .before .before .if2 .left) (c .before .before .before .before .if3 .taken)) (c .before .before .walk-by2 .ensures)
 
@@ -104,7 +104,7 @@ returns-7 c =
     let at-told = at-unknown .before in
     let start = before-told at-told in
     let a = start .args in
-    λ links used births order. let s = held start links used births order in
+    λ links ducts used births order. let s = held start links ducts used births order in
     walk-known s (a .switch) (a .tree) (a .out .now) (at-told .enum-told .given .1) (sym (at-unknown .unknown .ensures) ∙ at-if1 .if1 .left)
     (tree-3 s (a .tree) (c .before .before .before .before .before .if2 .left) (c .before .before .before .before .if3 .left)) (c .before .before .walk-by3 .ensures)
 

@@ -13,22 +13,22 @@ use Rattle.loading.proofs.load_empty.Tie as tie
 
 -- the way back from a place to the one before it that is cited
 abbrev before-check : tie.After-check-load → tie.Start
-before-check c = c .before .before .before .before .before .before .before .before .before .before
+before-check c = c .before .before .before .before .before .before .before .before .before .before .before .before
 
-abbrev at-store : tie.After-slice-known16 → tie.After-store-network
-at-store c = c .before .before .before .before .before .before .before .before .before .before .before .before .before .before .before .before
+abbrev at-store : tie.After-slice-known18 → tie.After-store-network
+at-store c = c .before .before .before .before .before .before .before .before .before .before .before .before .before .before .before .before .before .before
 
 -- the session that the lent arrays hold
 abbrev held : tie.Start → Session
 held c =
     let a = c .args in
-    sessionIn (a .st) (a .table .now) (a .used .now) (a .births .now) (a .order .now) (a .tree1 .now) (a .tree2 .now) (a .tree3 .now)
+    sessionIn (a .st) (a .table .now) (a .row .now) (a .used .now) (a .births .now) (a .order .now) (a .tree1 .now) (a .tree2 .now) (a .tree3 .now)
 
 -- what a refusal leaves
 abbrev left : tie.Start → LoadedIn → Outcome Session
 left c r =
     let a = c .args in
-    record { answer = loadAnswer (r .answer); after = sessionIn (r .state) (a .table .now) (a .used .now) (a .births .now) (a .order .now) (a .tree1 .now) (a .tree2 .now) (a .tree3 .now) }
+    record { answer = loadAnswer (r .answer); after = sessionIn (r .state) (a .table .now) (a .row .now) (a .used .now) (a .births .now) (a .order .now) (a .tree1 .now) (a .tree2 .now) (a .tree3 .now) }
 
 check-load-requires : tie.Need-check-load-requires
 check-load-requires c κs = search needs
@@ -44,7 +44,7 @@ enum-known-answer-2 c = search needs
 
 store-network-requires : tie.Need-store-network-requires
 store-network-requires c κs =
-    let at-answer = c .before .before .before .before .before .before .before .before .before in
+    let at-answer = c .before .before .before .before .before .before .before .before .before .before in
     let at-check = at-answer .before .before in
     let start = before-check at-check in
     let a = start .args in
@@ -62,32 +62,35 @@ returns c =
     )
 
 same-length : tie.Need-same-length
-same-length c = at-store c .store-network .kept .1 .1 .1 .1 .1 .0
+same-length c = at-store c .store-network .kept .1 .1 .1 .1 .1 .1 .0
 
 same-length-2 : tie.Need-same-length-2
-same-length-2 c = at-store c .store-network .kept .1 .1 .1 .1 .1 .1 .0
+same-length-2 c = at-store c .store-network .kept .1 .1 .1 .1 .1 .1 .1 .0
 
 same-length-3 : tie.Need-same-length-3
-same-length-3 c = at-store c .store-network .kept .1 .1 .1 .1 .1 .1 .1 .0
+same-length-3 c = at-store c .store-network .kept .1 .1 .1 .1 .1 .1 .1 .1 .0
 
 same-length-4 : tie.Need-same-length-4
-same-length-4 c = at-store c .store-network .kept .1 .1 .1 .1 .1 .1 .1 .1 .0
+same-length-4 c = at-store c .store-network .kept .1 .1 .1 .1 .1 .1 .1 .1 .1 .0
 
 same-length-5 : tie.Need-same-length-5
-same-length-5 c = at-store c .store-network .kept .1 .1 .1 .1 .1 .1 .1 .1 .1 .0
+same-length-5 c = at-store c .store-network .kept .1 .1 .1 .1 .1 .1 .1 .1 .1 .1 .0
 
 same-length-6 : tie.Need-same-length-6
-same-length-6 c = at-store c .store-network .kept .1 .1 .1 .1 .1 .1 .1 .1 .1 .1 .0
+same-length-6 c = at-store c .store-network .kept .1 .1 .1 .1 .1 .1 .1 .1 .1 .1 .1 .0
 
 same-length-7 : tie.Need-same-length-7
-same-length-7 c = at-store c .store-network .kept .1 .1 .1 .1 .1 .1 .1 .1 .1 .1 .1 .0
+same-length-7 c = at-store c .store-network .kept .1 .1 .1 .1 .1 .1 .1 .1 .1 .1 .1 .1 .0
 
 same-length-8 : tie.Need-same-length-8
-same-length-8 c = at-store c .store-network .kept .1 .1 .1 .1 .1 .1 .1 .1 .1 .1 .1 .1 .0
+same-length-8 c = at-store c .store-network .kept .1 .1 .1 .1 .1 .1 .1 .1 .1 .1 .1 .1 .1 .0
+
+same-length-9 : tie.Need-same-length-9
+same-length-9 c = at-store c .store-network .kept .1 .1 .1 .1 .1 .1 .1 .1 .1 .1 .1 .1 .1 .1 .0
 
 returns-2 : tie.Need-returns-2
 returns-2 c =
-    let at-answer = at-store c .before .before .before .before .before .before .before .before .before .before in
+    let at-answer = at-store c .before .before .before .before .before .before .before .before .before .before .before in
     let at-check = at-answer .before .before in
     let start = before-check at-check in (
       after-given (held start) _ (sym (at-check .check-load .ensures) ∙ ap loadAnswer (at-answer .answer2 .given .1)) (at-store c .store-network .ensures .0),
@@ -112,4 +115,5 @@ load-empty-spec =
     same-length-6
     same-length-7
     same-length-8
+    same-length-9
     returns-2)

@@ -18,7 +18,7 @@ use Rattle.offering.proofs.offer_each.Tie as tie
 
 abbrev Inv-loop : tie.InvT-loop
 Inv-loop links index used₀ births₀ order₀ tree1₀ tree2₀ list state₀ accepted₀ next₀ used births order tree1 tree2 state accepted next =
-    Reaches list (λ tree3. sessionIn state₀ links used₀ births₀ order₀ tree1₀ tree2₀ tree3) (λ tree3. sessionIn state links used births order tree1 tree2 tree3) accepted next
+    Reaches list (λ ducts tree3. sessionIn state₀ links ducts used₀ births₀ order₀ tree1₀ tree2₀ tree3) (λ ducts tree3. sessionIn state links ducts used births order tree1 tree2 tree3) accepted next
     × SameLengths used₀ births₀ order₀ tree1₀ tree2₀ used births order tree1 tree2 × (state .m ≡ state₀ .m)
 
 abbrev μ-loop : tie.MeasureT-loop
@@ -34,21 +34,21 @@ at-part c = c .before .before .before .before .before .before .before
 abbrev at-loop : tie.After-ear Inv-loop μ-loop → tie.At-loop Inv-loop μ-loop
 at-loop c = c .before .before .before .before .before .before .before .before .before
 
--- the session before the list, the one reached, and the one after the ear, by tree 3
-abbrev begun : tie.Start Inv-loop μ-loop → List ℕ → Session
-begun c tree3 =
+-- the session before the list, the one reached, and the one after the ear, by the ducts and tree 3
+abbrev begun : tie.Start Inv-loop μ-loop → List ℕ → List ℕ → Session
+begun c ducts tree3 =
     let a = c .args in
-    sessionIn (a .st) (a .links .now) (a .used .now) (a .births .now) (a .order .now) (a .tree1 .now) (a .tree2 .now) tree3
+    sessionIn (a .st) (a .links .now) ducts (a .used .now) (a .births .now) (a .order .now) (a .tree1 .now) (a .tree2 .now) tree3
 
-abbrev reached : tie.At-loop Inv-loop μ-loop → List ℕ → Session
-reached c tree3 =
+abbrev reached : tie.At-loop Inv-loop μ-loop → List ℕ → List ℕ → Session
+reached c ducts tree3 =
     let l = c .loop in
-    sessionIn (l .state) (before-loop c .args .links .now) (l .used) (l .births) (l .order) (l .tree1) (l .tree2) tree3
+    sessionIn (l .state) (before-loop c .args .links .now) ducts (l .used) (l .births) (l .order) (l .tree1) (l .tree2) tree3
 
-abbrev after : tie.After-ear Inv-loop μ-loop → List ℕ → Session
-after c tree3 =
+abbrev after : tie.After-ear Inv-loop μ-loop → List ℕ → List ℕ → Session
+after c ducts tree3 =
     let k = c .ear .last .1 .1 .1 in
-    sessionIn (c .ear .result .state) (before-loop (at-loop c) .args .links .now) (k .0) (k .1 .0) (k .1 .1 .0) (k .1 .1 .1 .0) (k .1 .1 .1 .1 .0) tree3
+    sessionIn (c .ear .result .state) (before-loop (at-loop c) .args .links .now) ducts (k .0) (k .1 .0) (k .1 .1 .0) (k .1 .1 .1 .0) (k .1 .1 .1 .1 .0) tree3
 
 abbrev part : tie.After-ear Inv-loop μ-loop → List ℕ
 part c =
@@ -56,9 +56,9 @@ part c =
     take (p .end - p .start) (drop (p .start) (before-loop (at-loop c) .args .list .now))
 
 -- what the ear was answered
-answered : (c : tie.After-ear Inv-loop μ-loop) (x : Ear) → c .ear .result .answer ≡ x → (tree3 : List ℕ)
-    → record { answer = earAnswer x; after = after c tree3 } ≡ offeredBy (reached (at-loop c) tree3) (part c)
-answered c x q tree3 = ap (λ (y : Ear). record { answer = earAnswer y; after = after c tree3 }) (sym q) ∙ c .ear .ensures tree3
+answered : (c : tie.After-ear Inv-loop μ-loop) (x : Ear) → c .ear .result .answer ≡ x → (ducts tree3 : List ℕ)
+    → record { answer = earAnswer x; after = after c ducts tree3 } ≡ offeredBy (reached (at-loop c) ducts tree3) (part c)
+answered c x q ducts tree3 = ap (λ (y : Ear). record { answer = earAnswer y; after = after c ducts tree3 }) (sym q) ∙ c .ear .ensures ducts tree3
 
 loop-holds : tie.Need-loop-holds Inv-loop μ-loop
 loop-holds c =
@@ -116,9 +116,9 @@ returns c =
     let start = before-loop loop in
     let l = loop .loop in
     let k = at-ear .ear .last .1 .1 .1 in
-    λ tree3. ap (λ (r : ListedIn). record { answer = earsAnswer (r .answer); after = sessionIn (r .state) (start .args .links .now) (k .0) (k .1 .0) (k .1 .1 .0) (k .1 .1 .1 .0) (k .1 .1 .1 .1 .0) tree3 }) (c .ears-refused .ensures)
+    λ ducts tree3. ap (λ (r : ListedIn). record { answer = earsAnswer (r .answer); after = sessionIn (r .state) (start .args .links .now) ducts (k .0) (k .1 .0) (k .1 .1 .0) (k .1 .1 .1 .0) (k .1 .1 .1 .1 .0) tree3 }) (c .ears-refused .ensures)
     ∙ reaches-end (start .args .list .now) (begun start) (reached loop) (l .accepted) (l .next) (l .inv .0) (at-part at-ear .part-at .result) (at-part at-ear .part-at .ensures) (after at-ear)
-    (answered at-ear _ (c .before .before .answer .given .1)) tree3
+    (answered at-ear _ (c .before .before .answer .given .1)) ducts tree3
 
 enum-known-answer-2 : tie.Need-enum-known-answer-2 Inv-loop μ-loop
 enum-known-answer-2 c = search needs
@@ -138,7 +138,7 @@ loop-again c =
       reaches-more (before-loop loop .args .list .now) (begun (before-loop loop)) (reached loop) (l .accepted) (l .next) (l .inv .0) (at-part at-ear .part-at .result) (at-part at-ear .part-at .ensures) (after at-ear)
           (answered at-ear _ (c .before .answer2 .given .1)),
       same-again (l .inv .1) (k .0) (k .1 .0) (k .1 .1 .0) (k .1 .1 .1 .0) (k .1 .1 .1 .1 .0),
-      same-m (reached loop []) (after at-ear []) (part at-ear) (at-ear .ear .ensures []) ∙ l .inv .2,
+      same-m (reached loop [] []) (after at-ear [] []) (part at-ear) (at-ear .ear .ensures [] []) ∙ l .inv .2,
     )
 
 same-length-6 : tie.Need-same-length-6 Inv-loop μ-loop

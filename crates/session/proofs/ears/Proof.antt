@@ -11,11 +11,11 @@ use Rattle.session.proofs.ears.Tie as tie
 
 -- the way back from a place to the one before it that is cited
 abbrev before-state : tie.After-state-of → tie.Start
-before-state c = c .before .before .before .before .before .before .before .before .before
+before-state c = c .before .before .before .before .before .before .before .before .before .before
 
 -- the session with another state
 abbrev withState : Session → State → Session
-withState s st = sessionIn st (s .links) (s .used) (s .births) (s .order) (s .tree1) (s .tree2) (s .tree3)
+withState s st = sessionIn st (s .links) (s .ducts) (s .used) (s .births) (s .order) (s .tree1) (s .tree2) (s .tree3)
 
 state-of-requires : tie.Need-state-of-requires
 state-of-requires c κs = search needs
@@ -33,7 +33,9 @@ slice-aggregate-ears-4 : tie.Need-slice-aggregate-ears-4
 slice-aggregate-ears-4 c = search needs
 
 slice-aggregate-ears-5 : tie.Need-slice-aggregate-ears-5
-slice-aggregate-ears-5 c = search needs
+slice-aggregate-ears-5 c =
+    let start = before-state (c .before .before .before .before .before) in
+    sym (arrays-sized (start .args .s) (start .good .0) .tree1)
 
 slice-aggregate-ears-6 : tie.Need-slice-aggregate-ears-6
 slice-aggregate-ears-6 c =
@@ -56,7 +58,7 @@ returns c =
     let a = before-state at-state .args in
     let s = a .s in
     ap (λ (x : Session). record { answer = earsAnswer (at-ears .ears .result .answer); after = x }) (c .session-of .ensures)
-    ∙ at-ears .ears .ensures (s .tree3)
+    ∙ at-ears .ears .ensures (s .ducts) (s .tree3)
     ∙ ap (λ (st : State). listedBy (withState s st) (a .list .now)) (at-state .state-of .ensures)
 
 pub ears-spec : {M : Type 1} → statement M

@@ -30,8 +30,8 @@ returns c =
     let at-state = at-zones .before .before .before .before in
     let a = at-state .before .before .before .before .args in
     let s = a .s in
-    let e = at-zones .zones-in .ensures (s .links) (s .used) (s .tree1) (s .tree2) (s .tree3)
-    ∙ ap (λ (st : State). zonedBy (sessionIn st (s .links) (s .used) (s .births) (s .order) (s .tree1) (s .tree2) (s .tree3)) (a .n1) (a .n2) (a .n3) (a .out .now)) (at-state .state-of .ensures) in
+    let e = at-zones .zones-in .ensures (s .links) (s .ducts) (s .used) (s .tree1) (s .tree2) (s .tree3)
+    ∙ ap (λ (st : State). zonedBy (sessionIn st (s .links) (s .ducts) (s .used) (s .births) (s .order) (s .tree1) (s .tree2) (s .tree3)) (a .n1) (a .n2) (a .n3) (a .out .now)) (at-state .state-of .ensures) in
     (ap (λ (o : Outcome (List ℕ)). o .answer) e, ap (λ (o : Outcome (List ℕ)). o .after) e)
 
 pub zones-spec : {M : Type 1} → statement M

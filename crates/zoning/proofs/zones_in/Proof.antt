@@ -14,8 +14,8 @@ use Rattle.zoning.proofs.zones_in.Statement.{statement}
 use Rattle.zoning.proofs.zones_in.Tie as tie
 
 -- the session that the lent arrays hold, with the others whatever they are
-abbrev held : tie.Start → List ℕ → List ℕ → List ℕ → List ℕ → List ℕ → Session
-held c links used tree1 tree2 tree3 = let a = c .args in sessionIn (a .st) links used (a .births .now) (a .order .now) tree1 tree2 tree3
+abbrev held : tie.Start → List ℕ → List ℕ → List ℕ → List ℕ → List ℕ → List ℕ → Session
+held c links ducts used tree1 tree2 tree3 = let a = c .args in sessionIn (a .st) links ducts used (a .births .now) (a .order .now) tree1 tree2 tree3
 
 -- the way back from a place to the one before it that is cited
 abbrev before-told : tie.After-enum-told → tie.Start
@@ -36,16 +36,16 @@ enum-told-4 c = search needs
 returns : tie.Need-returns
 returns c =
     let start = c .before .before .before .before .before .before in
-    λ links used tree1 tree2 tree3. zones-empty (held start links used tree1 tree2 tree3) _ _ _ _ (c .enum-told2 .given .1)
+    λ links ducts used tree1 tree2 tree3. zones-empty (held start links ducts used tree1 tree2 tree3) _ _ _ _ (c .enum-told2 .given .1)
 
 returns-2 : tie.Need-returns-2
 returns-2 c =
     let start = c .before .before .before .before .before .before in
-    λ links used tree1 tree2 tree3. zones-open (held start links used tree1 tree2 tree3) _ _ _ _ (c .enum-told3 .given .1)
+    λ links ducts used tree1 tree2 tree3. zones-open (held start links ducts used tree1 tree2 tree3) _ _ _ _ (c .enum-told3 .given .1)
 
 returns-3 : tie.Need-returns-3
 returns-3 c =
-    λ links used tree1 tree2 tree3. absurd (⊎-elim (λ e. omega arith) (λ e. omega arith) (rw (c .enum-told4 .given .1) at (c .before .before .match .keys2)))
+    λ links ducts used tree1 tree2 tree3. absurd (⊎-elim (λ e. omega arith) (λ e. omega arith) (rw (c .enum-told4 .given .1) at (c .before .before .match .keys2)))
 
 wrong-sizes-requires : tie.Need-wrong-sizes-requires
 wrong-sizes-requires c κs = search needs
@@ -54,7 +54,7 @@ returns-4 : tie.Need-returns-4
 returns-4 c =
     let at-wrong = c .before in
     let at-told = at-wrong .before in
-    λ links used tree1 tree2 tree3. zones-24 (held (before-told at-told) links used tree1 tree2 tree3) _ _ _ _ (at-told .enum-told .given .1)
+    λ links ducts used tree1 tree2 tree3. zones-24 (held (before-told at-told) links ducts used tree1 tree2 tree3) _ _ _ _ (at-told .enum-told .given .1)
     (sym (at-wrong .wrong-sizes .ensures) ∙ c .if1 .taken)
 
 cast-places : tie.Need-cast-places
@@ -65,7 +65,7 @@ returns-5 c =
     let at-if1 = c .before .before in
     let at-wrong = at-if1 .before in
     let at-told = at-wrong .before in
-    λ links used tree1 tree2 tree3. zones-18 (held (before-told at-told) links used tree1 tree2 tree3) _ _ _ _ (at-told .enum-told .given .1)
+    λ links ducts used tree1 tree2 tree3. zones-18 (held (before-told at-told) links ducts used tree1 tree2 tree3) _ _ _ _ (at-told .enum-told .given .1)
     (sym (at-wrong .wrong-sizes .ensures) ∙ at-if1 .if1 .left) (c .if2 .taken)
 
 least-requires : tie.Need-least-requires
@@ -112,7 +112,7 @@ returns-6 c =
     let at-if1 = at-if2 .before .before in
     let at-wrong = at-if1 .before in
     let at-told = at-wrong .before in
-    λ links used tree1 tree2 tree3. zones-written (held (before-told at-told) links used tree1 tree2 tree3) _ _ _ _ (at-told .enum-told .given .1)
+    λ links ducts used tree1 tree2 tree3. zones-written (held (before-told at-told) links ducts used tree1 tree2 tree3) _ _ _ _ (at-told .enum-told .given .1)
     (sym (at-wrong .wrong-sizes .ensures) ∙ at-if1 .if1 .left) (at-if2 .if2 .left) (at-least .least .ensures) (at-least2 .least2 .ensures) (at-set .set-zones .ensures)
 
 pub zones-in-spec : {M : Type 1} → statement M
