@@ -10,8 +10,8 @@ use Rattle.blocks.specs.declared.End.the-variants.{Input, Over, NotRead,
 
 -- what is known where a run ends: at the end of the input, where no more is read, and where a read failed; nothing is said where a write
 -- failed
-unfoldable pub EndsWith : End → Reader → Session → List ℕ → List ℕ → Type 0
-EndsWith Input x s links line = LedToEnd x s links line
-EndsWith Over x s links line = LedOver x s links line
-EndsWith NotRead x s links line = Led x s links line
-EndsWith NotWritten x s links line = Unit
+unfoldable pub EndsWith : End → Reader → Session → List ℕ → List ℕ → List ℕ → Type 0
+EndsWith Input x s links ducts line = LedToEnd x s links ducts line
+EndsWith Over x s links ducts line = LedOver x s links ducts line
+EndsWith NotRead x s links ducts line = Led x s links ducts line
+EndsWith NotWritten x s links ducts line = Unit

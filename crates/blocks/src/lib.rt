@@ -26,7 +26,9 @@ pub fn take_block(
     line: &mut [u8],
     numbers: &mut [u16],
     links: &mut [u16],
+    ducts: &mut [u8],
     table: &mut [u16],
+    row: &mut [u8],
     used: &mut [u8],
     births: &mut [u16],
     order: &mut [u16],
@@ -36,8 +38,8 @@ pub fn take_block(
     index: &mut [u16],
     out: &mut [u8],
 ) -> Known
-    requires { ⌜ (length (now line) ≡ 6145) × (3072 ≤ length (now numbers)) × (length (now links) ≡ 8192) × (8192 ≤ length (now out)) × SizedAs (now table) (now used) (now births) (now order) (now tree1) (now tree2) (now tree3) × IndexedIn st (now table) (now index) ⌝ }
-    ensures { λ k. ⌜ (k .written ≡ true → Takes r (sessionIn st (now (table .entry)) (now (used .entry)) (now (births .entry)) (now (order .entry)) (now (tree1 .entry)) (now (tree2 .entry)) (now (tree3 .entry))) (now (links .entry)) (now (line .entry)) (now (block .entry)) (k .reader) (sessionIn (k .state) (now (table .exit)) (now (used .exit)) (now (births .exit)) (now (order .exit)) (now (tree1 .exit)) (now (tree2 .exit)) (now (tree3 .exit))) (now (links .exit)) (now (line .exit))) ⌝ }
+    requires { ⌜ (length (now line) ≡ 6145) × (3072 ≤ length (now numbers)) × (length (now links) ≡ 8192) × (length (now ducts) ≡ 4096) × (8192 ≤ length (now out)) × SizedAs (now table) (now row) (now used) (now births) (now order) (now tree1) (now tree2) (now tree3) × IndexedIn st (now table) (now index) ⌝ }
+    ensures { λ k. ⌜ (k .written ≡ true → Takes r (sessionIn st (now (table .entry)) (now (row .entry)) (now (used .entry)) (now (births .entry)) (now (order .entry)) (now (tree1 .entry)) (now (tree2 .entry)) (now (tree3 .entry))) (now (links .entry)) (now (ducts .entry)) (now (line .entry)) (now (block .entry)) (k .reader) (sessionIn (k .state) (now (table .exit)) (now (row .exit)) (now (used .exit)) (now (births .exit)) (now (order .exit)) (now (tree1 .exit)) (now (tree2 .exit)) (now (tree3 .exit))) (now (links .exit)) (now (ducts .exit)) (now (line .exit))) ⌝ }
     ensures { λ k. ⌜ Keeps 3072 (now (numbers .entry)) (now (numbers .exit)) × IndexedIn (k .state) (now (table .exit)) (now (index .exit)) ⌝ }
 {
     let mut reader = r;
@@ -52,7 +54,9 @@ pub fn take_block(
             line,
             numbers,
             links,
+            ducts,
             table,
+            row,
             used,
             births,
             order,
@@ -102,7 +106,9 @@ pub fn end_input(
     line: &mut [u8],
     numbers: &mut [u16],
     links: &mut [u16],
+    ducts: &mut [u8],
     table: &mut [u16],
+    row: &mut [u8],
     used: &mut [u8],
     births: &mut [u16],
     order: &mut [u16],
@@ -112,8 +118,8 @@ pub fn end_input(
     index: &mut [u16],
     out: &mut [u8],
 ) -> Ended
-    requires { ⌜ (length (now line) ≡ 6145) × (3072 ≤ length (now numbers)) × (length (now links) ≡ 8192) × (8192 ≤ length (now out)) × SizedAs (now table) (now used) (now births) (now order) (now tree1) (now tree2) (now tree3) × IndexedIn st (now table) (now index) ⌝ }
-    ensures { λ k. ⌜ (Led r (sessionIn st (now (table .entry)) (now (used .entry)) (now (births .entry)) (now (order .entry)) (now (tree1 .entry)) (now (tree2 .entry)) (now (tree3 .entry))) (now (links .entry)) (now (line .entry)) → EndsWith (k .end) (k .reader) (sessionIn (k .state) (now (table .exit)) (now (used .exit)) (now (births .exit)) (now (order .exit)) (now (tree1 .exit)) (now (tree2 .exit)) (now (tree3 .exit))) (now (links .exit)) (now (line .exit))) ⌝ }
+    requires { ⌜ (length (now line) ≡ 6145) × (3072 ≤ length (now numbers)) × (length (now links) ≡ 8192) × (length (now ducts) ≡ 4096) × (8192 ≤ length (now out)) × SizedAs (now table) (now row) (now used) (now births) (now order) (now tree1) (now tree2) (now tree3) × IndexedIn st (now table) (now index) ⌝ }
+    ensures { λ k. ⌜ (Led r (sessionIn st (now (table .entry)) (now (row .entry)) (now (used .entry)) (now (births .entry)) (now (order .entry)) (now (tree1 .entry)) (now (tree2 .entry)) (now (tree3 .entry))) (now (links .entry)) (now (ducts .entry)) (now (line .entry)) → EndsWith (k .end) (k .reader) (sessionIn (k .state) (now (table .exit)) (now (row .exit)) (now (used .exit)) (now (births .exit)) (now (order .exit)) (now (tree1 .exit)) (now (tree2 .exit)) (now (tree3 .exit))) (now (links .exit)) (now (ducts .exit)) (now (line .exit))) ⌝ }
 {
     let finished = dialogue::finish(
         r,
@@ -121,7 +127,9 @@ pub fn end_input(
         line,
         numbers,
         links,
+        ducts,
         table,
+        row,
         used,
         births,
         order,

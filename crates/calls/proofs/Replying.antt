@@ -57,10 +57,10 @@ replied-walk r s switch tree o held holds written {x} {answer} {route} q e p h =
     (replied .0 ∙ ap₂ (λ (w : Answer) (l : List ℕ). repliedBy r (r .kept) s (replyTo (λ vs. walked switch tree (take (at vs 0) l)) w)) e p, replied .1)
 
 -- the reply that the dialogue gives serves the line
-pub serves-replied : (q : Request) (numbers : List ℕ) (r : Code·Reader) (s : Session) (links : List ℕ) (x : Code·Reader) (s′ : Session) (bytes : List ℕ) (d : Kept) (z : Session) (w : Reply)
-    → ((own : List ℕ) → requested q numbers (pred (r .number)) (record { after = dialogueIn (r .kept) s links; printed = own; stops = r .stopped }) ≡ record { after = dialogueIn d z links; printed = reply w; stops = false })
+pub serves-replied : (q : Request) (numbers : List ℕ) (r : Code·Reader) (s : Session) (links ducts : List ℕ) (x : Code·Reader) (s′ : Session) (bytes : List ℕ) (d : Kept) (z : Session) (w : Reply)
+    → ((own : List ℕ) → requested q numbers (pred (r .number)) (record { after = dialogueIn (r .kept) s links ducts; printed = own; stops = r .stopped }) ≡ record { after = dialogueIn d z links ducts; printed = reply w; stops = false })
     → repliedIn x s′ bytes ≡ repliedBy r d z w
-    → Serves q numbers r s links x s′ bytes
-serves-replied q numbers r s links x s′ bytes d z w h e line own printed =
-    ap (λ (y : Replied). record { state = dialogueIn (y .kept) (y .session) links; number = y .number; line = take (y .held) line; output = printed ++ y .printed; stopped = y .stopped }) e
+    → Serves q numbers r s links ducts x s′ bytes
+serves-replied q numbers r s links ducts x s′ bytes d z w h e line own printed =
+    ap (λ (y : Replied). record { state = dialogueIn (y .kept) (y .session) links ducts; number = y .number; line = take (y .held) line; output = printed ++ y .printed; stopped = y .stopped }) e
     ∙ sym (ap (λ (t : Turn Dialogue). record { state = t .after; number = r .number; line = take (r .held) line; output = printed ++ t .printed; stopped = t .stops }) (h own))

@@ -41,26 +41,26 @@ repliedIn x s bytes = record { kept = x .kept; number = x .number; held = x .hel
 abbrev pub repliedBy : Reader → Kept → Session → Reply → Replied
 repliedBy r d s w = record { kept = d; number = r .number; held = r .held; stopped = false; session = s; printed = reply w }
 
--- the network that was collected is loaded
-abbrev pub Opens : Reader → Session → List ℕ → Reader → Session → List ℕ → Type 0
-Opens r s links x s′ bytes =
+-- the network that was collected is loaded, with its ducts
+abbrev pub Opens : Reader → Session → List ℕ → List ℕ → Reader → Session → List ℕ → Type 0
+Opens r s links ducts x s′ bytes =
     repliedIn x s′ bytes
     ≡ (let d = r .kept in
-    let o = loadedBy s (networkOf (d .n) (take (2 * d .count) links) (d .root) (d .first) (d .last)) in
+    let o = loadedBy s (networkOf (d .n) (take (2 * d .count) links) (d .root) (d .first) (d .last)) (take (d .count) ducts) in
     repliedBy r d (o .after) (replyTo (λ vs. opened (at vs 0) (at vs 1)) (o .answer)))
 
--- an ear is offered, whatever tree 3 holds
+-- an ear is offered, whatever the session's row of ducts and tree 3 hold
 abbrev pub Offers : Reader → State → List ℕ → List ℕ → List ℕ → List ℕ → List ℕ → List ℕ → List ℕ → Called → List ℕ → List ℕ → List ℕ → List ℕ → List ℕ → List ℕ → Type 0
 Offers r st table used births order tree1 tree2 e c used′ births′ order′ tree1′ tree2′ bytes =
-    (tree3 : List ℕ) → repliedIn (c .reader) (sessionIn (c .state) table used′ births′ order′ tree1′ tree2′ tree3) bytes
-    ≡ (let o = offeredBy (sessionIn st table used births order tree1 tree2 tree3) e in
+    (row tree3 : List ℕ) → repliedIn (c .reader) (sessionIn (c .state) table row used′ births′ order′ tree1′ tree2′ tree3) bytes
+    ≡ (let o = offeredBy (sessionIn st table row used births order tree1 tree2 tree3) e in
     repliedBy r (r .kept) (o .after) (replyTo (λ vs. new (at vs 0)) (o .answer)))
 
--- the session is closed, whatever the order and trees 1 and 2 hold
+-- the session is closed, whatever its row of ducts, the order and trees 1 and 2 hold
 abbrev pub Closes : Reader → State → List ℕ → List ℕ → List ℕ → List ℕ → Called → List ℕ → List ℕ → Type 0
 Closes r st table used births tree3 c tree3′ bytes =
-    (order tree1 tree2 : List ℕ) → repliedIn (c .reader) (sessionIn (c .state) table used births order tree1 tree2 tree3′) bytes
-    ≡ (let o = closedBy shortest (sessionIn st table used births order tree1 tree2 tree3) in
+    (row order tree1 tree2 : List ℕ) → repliedIn (c .reader) (sessionIn (c .state) table row used births order tree1 tree2 tree3′) bytes
+    ≡ (let o = closedBy shortest (sessionIn st table row used births order tree1 tree2 tree3) in
     repliedBy r (r .kept) (o .after) (replyTo (λ vs. closed) (o .answer)))
 
 -- an index of the links that are stored stays one
@@ -68,12 +68,12 @@ abbrev pub KeepsIndexed : State → List ℕ → List ℕ → State → List ℕ
 KeepsIndexed st table index st′ table′ index′ = IndexedIn st table index → IndexedIn st′ table′ index′
 
 -- the line has what it asks of the session, whatever was printed before
-abbrev pub Serves : Request → List ℕ → Reader → Session → List ℕ → Reader → Session → List ℕ → Type 0
-Serves q numbers r s links x s′ bytes =
-    (line own printed : List ℕ) → readerIn x s′ links line (printed ++ bytes) ≡ served q numbers own (readerIn r s links line printed)
+abbrev pub Serves : Request → List ℕ → Reader → Session → List ℕ → List ℕ → Reader → Session → List ℕ → Type 0
+Serves q numbers r s links ducts x s′ bytes =
+    (line own printed : List ℕ) → readerIn x s′ links ducts line (printed ++ bytes) ≡ served q numbers own (readerIn r s links ducts line printed)
 
 -- the line has the walk that it asks for, whatever is collected and whatever the other arrays hold
 abbrev pub ServesWalk : ℕ → ℕ → Reader → State → List ℕ → List ℕ → List ℕ → Called → List ℕ → Type 0
 ServesWalk switch tree r st tree1 tree2 tree3 c bytes =
-    (numbers links table used births order : List ℕ) → Serves (Walk switch tree) numbers r (sessionIn st table used births order tree1 tree2 tree3) links (c .reader)
-    (sessionIn (c .state) table used births order tree1 tree2 tree3) bytes
+    (numbers links ducts table row used births order : List ℕ) → Serves (Walk switch tree) numbers r (sessionIn st table row used births order tree1 tree2 tree3) links ducts (c .reader)
+    (sessionIn (c .state) table row used births order tree1 tree2 tree3) bytes

@@ -86,12 +86,14 @@ fn replied(r: Reader) -> Reader
     reader
 }
 
-// Loads the network that was collected.
+// Loads the network that was collected, with its ducts; row is the session's row of ducts.
 pub fn open(
     r: Reader,
     st: State,
     links: &[u16],
+    ducts: &[u8],
     table: &mut [u16],
+    row: &mut [u8],
     used: &mut [u8],
     births: &mut [u16],
     order: &mut [u16],
@@ -101,20 +103,23 @@ pub fn open(
     index: &mut [u16],
     out: &mut [u8],
 ) -> Called
-    requires { ⌜ (8192 ≤ length (now out)) × SizedAs (now table) (now used) (now births) (now order) (now tree1) (now tree2) (now tree3) ⌝ }
-    ensures { λ c. ⌜ Opens r (sessionIn st (now (table .entry)) (now (used .entry)) (now (births .entry)) (now (order .entry)) (now (tree1 .entry)) (now (tree2 .entry)) (now (tree3 .entry))) (now (links .entry)) (c .reader) (sessionIn (c .state) (now (table .exit)) (now (used .exit)) (now (births .exit)) (now (order .exit)) (now (tree1 .exit)) (now (tree2 .exit)) (now (tree3 .exit))) (take (c .written) (now (out .exit))) ⌝ }
+    requires { ⌜ (8192 ≤ length (now out)) × SizedAs (now table) (now row) (now used) (now births) (now order) (now tree1) (now tree2) (now tree3) ⌝ }
+    ensures { λ c. ⌜ Opens r (sessionIn st (now (table .entry)) (now (row .entry)) (now (used .entry)) (now (births .entry)) (now (order .entry)) (now (tree1 .entry)) (now (tree2 .entry)) (now (tree3 .entry))) (now (links .entry)) (now (ducts .entry)) (c .reader) (sessionIn (c .state) (now (table .exit)) (now (row .exit)) (now (used .exit)) (now (births .exit)) (now (order .exit)) (now (tree1 .exit)) (now (tree2 .exit)) (now (tree3 .exit))) (take (c .written) (now (out .exit))) ⌝ }
     ensures { λ c. ⌜ Keeps (c .written) (now (out .entry)) (now (out .exit)) × KeepsIndexed st (now (table .entry)) (now (index .entry)) (c .state) (now (table .exit)) (now (index .exit)) ⌝ }
 {
     let d = r.kept;
     let numbers = rows::least(2 * (d.count as usize), links.len());
+    let given = rows::least(d.count as usize, ducts.len());
     let loaded = loading::load(
         st,
         d.n,
         &links[..numbers],
+        &ducts[..given],
         d.root,
         d.first,
         d.last,
         table,
+        row,
         used,
         births,
         order,
@@ -206,6 +211,7 @@ pub fn close(
 pub fn clear(
     r: Reader,
     table: &mut [u16],
+    row: &mut [u8],
     used: &mut [u8],
     births: &mut [u16],
     order: &mut [u16],
@@ -215,11 +221,11 @@ pub fn clear(
     index: &mut [u16],
     out: &mut [u8],
 ) -> Called
-    requires { ⌜ (8192 ≤ length (now out)) × SizedAs (now table) (now used) (now births) (now order) (now tree1) (now tree2) (now tree3) ⌝ }
-    ensures { λ c. ⌜ repliedIn (c .reader) (sessionIn (c .state) (now (table .exit)) (now (used .exit)) (now (births .exit)) (now (order .exit)) (now (tree1 .exit)) (now (tree2 .exit)) (now (tree3 .exit))) (take (c .written) (now (out .exit))) ≡ repliedBy r freshKept emptySession cleared ⌝ }
+    requires { ⌜ (8192 ≤ length (now out)) × SizedAs (now table) (now row) (now used) (now births) (now order) (now tree1) (now tree2) (now tree3) ⌝ }
+    ensures { λ c. ⌜ repliedIn (c .reader) (sessionIn (c .state) (now (table .exit)) (now (row .exit)) (now (used .exit)) (now (births .exit)) (now (order .exit)) (now (tree1 .exit)) (now (tree2 .exit)) (now (tree3 .exit))) (take (c .written) (now (out .exit))) ≡ repliedBy r freshKept emptySession cleared ⌝ }
     ensures { λ c. ⌜ Keeps (c .written) (now (out .entry)) (now (out .exit)) × IndexedIn (c .state) (now (table .exit)) (now (index .exit)) ⌝ }
 {
-    let state = loading::clear(table, used, births, order, tree1, tree2, tree3, index);
+    let state = loading::clear(table, row, used, births, order, tree1, tree2, tree3, index);
     let written = replies::write_cleared(out);
     let kept = Kept::fresh();
     let mut dropped = r;

@@ -8,7 +8,7 @@ use native.Mathlib.Omega.{arith}
 use lib.ListN.{length, drop, length-append}
 use lib.Seq.{drop-append-add, drop-drop}
 use Rattle.mondschein.specs.Outcome.{over}
-use Rattle.lines.specs.Writing.{EAR, ascii, decimal, spaced, separated, bracketed, Form, net, link, opening, ear, closing, walk, clearing, writing}
+use Rattle.lines.specs.Writing.{EAR, ascii, decimal, spaced, separated, bracketed, Form, net, link, ducted, opening, ear, closing, walk, clearing, writing}
 use Rattle.lines.specs.Reading.{reading}
 use Rattle.lines.specs.Line.{held}
 use Rattle.lines.proofs.Decimals.{decimal-some}
@@ -49,6 +49,7 @@ numbers-keeps s numbers = go (reading s) refl
     go none e = refl
     go (some (net n root first last)) e = refl
     go (some (link a b)) e = refl
+    go (some (ducted a b duct)) e = refl
     go (some opening) e = refl
     go (some (ear l)) e = over-keeps 3072 l numbers (ear-short s l e)
     go (some closing) e = refl

@@ -1,7 +1,7 @@
 // A line of the dialogue without the session: what it does to the network that is collected, what it asks of the session, and else its
-// reply. The collected links stand at the start of a slice, two numbers each; a reply is written at the start of another.
+// reply. The collected links stand at the start of a slice, two numbers each, their ducts in another; a reply is written at the start of a third.
+use in_place::Session;
 use lines::Form;
-use session::Session;
 ghost use mathlib.Core.Path.{_≡_};
 ghost use mathlib.Core.Bool.{true, false};
 ghost use Prim.Native.Nat.{_≤_};
@@ -99,33 +99,51 @@ fn collect_net(d: Kept, n: u16, root: u16, first: u16, last: u16) -> Answered
     asking(kept, Request::Nothing)
 }
 
-// Collects a link; one link too many is unread.
-fn collect_link(d: Kept, number: u16, a: u16, b: u16, links: &mut [u16], out: &mut [u8]) -> Answered
-    requires { ⌜ (length (now links) ≡ 8192) × (8192 ≤ length (now out)) ⌝ }
-    ensures { λ r. ⌜ Responds d (now (links .entry)) number (Form·.Link a b) r (now (links .exit)) (now (out .exit)) ⌝ }
+// Collects a link with its duct; one link too many is unread.
+fn collect_link(
+    d: Kept,
+    number: u16,
+    a: u16,
+    b: u16,
+    duct: u8,
+    links: &mut [u16],
+    ducts: &mut [u8],
+    out: &mut [u8],
+) -> Answered
+    requires { ⌜ (length (now links) ≡ 8192) × (length (now ducts) ≡ 4096) × (8192 ≤ length (now out)) ⌝ }
+    ensures { λ r. ⌜ Responds d (now (links .entry)) (now (ducts .entry)) number (Form·.Link a b duct) r (now (links .exit)) (now (ducts .exit)) (now (out .exit)) ⌝ }
     ensures { λ r. ⌜ Keeps (ownCount (r .request) (r .written)) (now (out .entry)) (now (out .exit)) ⌝ }
 {
     let count = d.count;
     if Session::MAX_LINKS <= count {
         return unread(d, number, out);
     }
-    let i = 2 * (count as usize);
+    let at = count as usize;
+    let i = 2 * at;
     links[i] = a;
     links[i + 1] = b;
+    ducts[at] = duct;
     let mut kept = d;
     kept.count = count + 1;
     asking(kept, Request::Nothing)
 }
 
 // Does what a form says that was read, but for what it asks of the session.
-fn respond(d: Kept, number: u16, form: Form, links: &mut [u16], out: &mut [u8]) -> Answered
-    requires { ⌜ (length (now links) ≡ 8192) × (8192 ≤ length (now out)) ⌝ }
-    ensures { λ r. ⌜ Responds d (now (links .entry)) number form r (now (links .exit)) (now (out .exit)) ⌝ }
+fn respond(
+    d: Kept,
+    number: u16,
+    form: Form,
+    links: &mut [u16],
+    ducts: &mut [u8],
+    out: &mut [u8],
+) -> Answered
+    requires { ⌜ (length (now links) ≡ 8192) × (length (now ducts) ≡ 4096) × (8192 ≤ length (now out)) ⌝ }
+    ensures { λ r. ⌜ Responds d (now (links .entry)) (now (ducts .entry)) number form r (now (links .exit)) (now (ducts .exit)) (now (out .exit)) ⌝ }
     ensures { λ r. ⌜ Keeps (ownCount (r .request) (r .written)) (now (out .entry)) (now (out .exit)) ⌝ }
 {
     match form {
         Form::Net(n, root, first, last) => collect_net(d, n, root, first, last),
-        Form::Link(a, b) => collect_link(d, number, a, b, links, out),
+        Form::Link(a, b, duct) => collect_link(d, number, a, b, duct, links, ducts, out),
         Form::Open => asking(d, Request::Call(Call::Open)),
         Form::Ear(count) => asking(d, Request::Call(Call::Ear(count))),
         Form::Close => asking(d, Request::Call(Call::Close)),
@@ -142,16 +160,17 @@ fn answer(
     bytes: &[u8],
     numbers: &mut [u16],
     links: &mut [u16],
+    ducts: &mut [u8],
     out: &mut [u8],
 ) -> Answered
-    requires { ⌜ (3072 ≤ length (now numbers)) × (length (now links) ≡ 8192) × (8192 ≤ length (now out)) ⌝ }
-    ensures { λ r. ⌜ Answers d (now (links .entry)) number (now (bytes .entry)) r (now (numbers .exit)) (now (links .exit)) (now (out .exit)) ⌝ }
+    requires { ⌜ (3072 ≤ length (now numbers)) × (length (now links) ≡ 8192) × (length (now ducts) ≡ 4096) × (8192 ≤ length (now out)) ⌝ }
+    ensures { λ r. ⌜ Answers d (now (links .entry)) (now (ducts .entry)) number (now (bytes .entry)) r (now (numbers .exit)) (now (links .exit)) (now (ducts .exit)) (now (out .exit)) ⌝ }
     ensures { λ r. ⌜ Keeps (ownCount (r .request) (r .written)) (now (out .entry)) (now (out .exit)) ⌝ }
     ensures { λ r. ⌜ Keeps 3072 (now (numbers .entry)) (now (numbers .exit)) ⌝ }
 {
     let line = lines::read_line(number, bytes, numbers);
     let form = line.form;
-    respond(d, number, form, links, out)
+    respond(d, number, form, links, ducts, out)
 }
 
 // What is known between two bytes of an input: what is collected, the number of the line that comes, the count of its bytes so far,
@@ -213,10 +232,11 @@ pub fn end_line(
     line: &[u8],
     numbers: &mut [u16],
     links: &mut [u16],
+    ducts: &mut [u8],
     out: &mut [u8],
 ) -> Ending
-    requires { ⌜ (3072 ≤ length (now numbers)) × (length (now links) ≡ 8192) × (8192 ≤ length (now out)) ⌝ }
-    ensures { λ e. ⌜ Ends r (now (links .entry)) (now (line .entry)) e (now (numbers .exit)) (now (links .exit)) (now (out .exit)) ⌝ }
+    requires { ⌜ (3072 ≤ length (now numbers)) × (length (now links) ≡ 8192) × (length (now ducts) ≡ 4096) × (8192 ≤ length (now out)) ⌝ }
+    ensures { λ e. ⌜ Ends r (now (links .entry)) (now (ducts .entry)) (now (line .entry)) e (now (numbers .exit)) (now (links .exit)) (now (ducts .exit)) (now (out .exit)) ⌝ }
     ensures { λ e. ⌜ Keeps (ownCount (e .request) (e .written)) (now (out .entry)) (now (out .exit)) ⌝ }
     ensures { λ e. ⌜ Keeps 3072 (now (numbers .entry)) (now (numbers .exit)) ⌝ }
 {
@@ -225,7 +245,15 @@ pub fn end_line(
     }
     let held = rows::least(r.held, line.len());
     let d = r.kept;
-    let answered = answer(d, r.number as u16, &line[..held], numbers, links, out);
+    let answered = answer(
+        d,
+        r.number as u16,
+        &line[..held],
+        numbers,
+        links,
+        ducts,
+        out,
+    );
     let kept = answered.kept;
     let request = answered.request;
     let reader = Reader {

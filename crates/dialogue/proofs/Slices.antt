@@ -75,40 +75,46 @@ module _ (o : List ℕ) (w : ℕ) (h : w ≤ length o) where
           ∙ drop-drop r w o
 
 -- the lent slices are long enough, and as long as they were; the numbers past those of an ear are what they were
-pub record Lent (line₀ numbers₀ links₀ out₀ line numbers links out : List ℕ) : Type 0 where
+pub record Lent (line₀ numbers₀ links₀ ducts₀ out₀ line numbers links ducts out : List ℕ) : Type 0 where
   pub line-long : length line ≡ 6145
   pub numbers-long : 3072 ≤ length numbers
   pub links-long : length links ≡ 8192
+  pub ducts-long : length ducts ≡ 4096
   pub out-long : 8192 ≤ length out
   pub line-same : length line ≡ length line₀
   pub numbers-same : length numbers ≡ length numbers₀
   pub links-same : length links ≡ length links₀
+  pub ducts-same : length ducts ≡ length ducts₀
   pub out-same : length out ≡ length out₀
   pub numbers-kept : Keeps 3072 numbers₀ numbers
 
-pub lent-begin : (line numbers links out : List ℕ) → length line ≡ 6145 → 3072 ≤ length numbers → length links ≡ 8192 → 8192 ≤ length out → Lent line numbers links out line numbers links out
-lent-begin line numbers links out a b c d =
-    record { line-long = a; numbers-long = b; links-long = c; out-long = d; line-same = refl; numbers-same = refl; links-same = refl; out-same = refl; numbers-kept = refl }
+pub lent-begin : (line numbers links ducts out : List ℕ) → length line ≡ 6145 → 3072 ≤ length numbers → length links ≡ 8192 → length ducts ≡ 4096 → 8192 ≤ length out
+    → Lent line numbers links ducts out line numbers links ducts out
+lent-begin line numbers links ducts out a b c f d =
+    record { line-long = a; numbers-long = b; links-long = c; ducts-long = f; out-long = d; line-same = refl; numbers-same = refl; links-same = refl; ducts-same = refl; out-same = refl; numbers-kept = refl }
 
-pub lent-again : {line₀ numbers₀ links₀ out₀ line numbers links out : List ℕ} → Lent line₀ numbers₀ links₀ out₀ line numbers links out → (line′ numbers′ links′ out′ : List ℕ)
-    → length line′ ≡ length line → length numbers′ ≡ length numbers → length links′ ≡ length links → length out′ ≡ length out → Keeps 3072 numbers numbers′
-    → Lent line₀ numbers₀ links₀ out₀ line′ numbers′ links′ out′
-lent-again l line′ numbers′ links′ out′ a b c d e = record {
+pub lent-again : {line₀ numbers₀ links₀ ducts₀ out₀ line numbers links ducts out : List ℕ} → Lent line₀ numbers₀ links₀ ducts₀ out₀ line numbers links ducts out → (line′ numbers′ links′ ducts′ out′ : List ℕ)
+    → length line′ ≡ length line → length numbers′ ≡ length numbers → length links′ ≡ length links → length ducts′ ≡ length ducts → length out′ ≡ length out → Keeps 3072 numbers numbers′
+    → Lent line₀ numbers₀ links₀ ducts₀ out₀ line′ numbers′ links′ ducts′ out′
+lent-again l line′ numbers′ links′ ducts′ out′ a b c f d e = record {
   line-long = a ∙ l .line-long;
   numbers-long = omega (arith, b, l .numbers-long);
   links-long = c ∙ l .links-long;
+  ducts-long = f ∙ l .ducts-long;
   out-long = omega (arith, d, l .out-long);
   line-same = a ∙ l .line-same;
   numbers-same = b ∙ l .numbers-same;
   links-same = c ∙ l .links-same;
+  ducts-same = f ∙ l .ducts-same;
   out-same = d ∙ l .out-same;
   numbers-kept = e ∙ l .numbers-kept;
 }
 
 -- the session's arrays have their lengths, and the index the one that it had
-pub record Stored (l₀ u₀ b₀ o₀ p₀ q₀ t₀ i₀ l u b o p q t i : List ℕ) : Type 0 where
-  pub sized : SizedAs l u b o p q t
+pub record Stored (l₀ d₀ u₀ b₀ o₀ p₀ q₀ t₀ i₀ l d u b o p q t i : List ℕ) : Type 0 where
+  pub sized : SizedAs l d u b o p q t
   pub table-same : length l ≡ length l₀
+  pub row-same : length d ≡ length d₀
   pub used-same : length u ≡ length u₀
   pub births-same : length b ≡ length b₀
   pub order-same : length o ≡ length o₀
@@ -117,10 +123,11 @@ pub record Stored (l₀ u₀ b₀ o₀ p₀ q₀ t₀ i₀ l u b o p q t i : Lis
   pub tree3-same : length t ≡ length t₀
   pub index-same : length i ≡ length i₀
 
-pub stored-begin : (l u b o p q t i : List ℕ) → SizedAs l u b o p q t → Stored l u b o p q t i l u b o p q t i
-stored-begin l u b o p q t i z = record {
+pub stored-begin : (l d u b o p q t i : List ℕ) → SizedAs l d u b o p q t → Stored l d u b o p q t i l d u b o p q t i
+stored-begin l d u b o p q t i z = record {
   sized = z;
   table-same = refl;
+  row-same = refl;
   used-same = refl;
   births-same = refl;
   order-same = refl;
@@ -130,13 +137,14 @@ stored-begin l u b o p q t i z = record {
   index-same = refl;
 }
 
-pub stored-again : {l₀ u₀ b₀ o₀ p₀ q₀ t₀ i₀ l u b o p q t i : List ℕ} → Stored l₀ u₀ b₀ o₀ p₀ q₀ t₀ i₀ l u b o p q t i → (l′ u′ b′ o′ p′ q′ t′ i′ : List ℕ)
-    → length l′ ≡ length l → length u′ ≡ length u → length b′ ≡ length b → length o′ ≡ length o → length p′ ≡ length p → length q′ ≡ length q → length t′ ≡ length t → length i′ ≡ length i
-    → Stored l₀ u₀ b₀ o₀ p₀ q₀ t₀ i₀ l′ u′ b′ o′ p′ q′ t′ i′
-stored-again z l′ u′ b′ o′ p′ q′ t′ i′ el eu eb eo ep eq et ei = record {
+pub stored-again : {l₀ d₀ u₀ b₀ o₀ p₀ q₀ t₀ i₀ l d u b o p q t i : List ℕ} → Stored l₀ d₀ u₀ b₀ o₀ p₀ q₀ t₀ i₀ l d u b o p q t i → (l′ d′ u′ b′ o′ p′ q′ t′ i′ : List ℕ)
+    → length l′ ≡ length l → length d′ ≡ length d → length u′ ≡ length u → length b′ ≡ length b → length o′ ≡ length o → length p′ ≡ length p → length q′ ≡ length q → length t′ ≡ length t → length i′ ≡ length i
+    → Stored l₀ d₀ u₀ b₀ o₀ p₀ q₀ t₀ i₀ l′ d′ u′ b′ o′ p′ q′ t′ i′
+stored-again z l′ d′ u′ b′ o′ p′ q′ t′ i′ el ed eu eb eo ep eq et ei = record {
   sized =
       record {
         links = el ∙ z .sized .links;
+        ducts = ed ∙ z .sized .ducts;
         used = eu ∙ z .sized .used;
         births = eb ∙ z .sized .births;
         order = eo ∙ z .sized .order;
@@ -145,6 +153,7 @@ stored-again z l′ u′ b′ o′ p′ q′ t′ i′ el eu eb eo ep eq et ei =
         tree3 = et ∙ z .sized .tree3;
       };
   table-same = el ∙ z .table-same;
+  row-same = ed ∙ z .row-same;
   used-same = eu ∙ z .used-same;
   births-same = eb ∙ z .births-same;
   order-same = eo ∙ z .order-same;

@@ -1,5 +1,5 @@
 // The lines of a block: each is held, ended, and has what it asks of the session; their replies stand one after another in a slice.
-// The collected links stand at the start of another, two numbers each.
+// The collected links stand at the start of another, two numbers each, and their ducts in a third; row is the session's row of ducts.
 use collect::Reader;
 use in_place::State;
 ghost use mathlib.Core.Path.{_≡_};
@@ -36,7 +36,9 @@ pub fn take_lines(
     line: &mut [u8],
     numbers: &mut [u16],
     links: &mut [u16],
+    ducts: &mut [u8],
     table: &mut [u16],
+    row: &mut [u8],
     used: &mut [u8],
     births: &mut [u16],
     order: &mut [u16],
@@ -46,8 +48,8 @@ pub fn take_lines(
     index: &mut [u16],
     out: &mut [u8],
 ) -> Taken
-    requires { ⌜ (from ≤ length (now block)) × (length (now line) ≡ 6145) × (3072 ≤ length (now numbers)) × (length (now links) ≡ 8192) × (8192 ≤ length (now out)) × SizedAs (now table) (now used) (now births) (now order) (now tree1) (now tree2) (now tree3) × IndexedIn st (now table) (now index) ⌝ }
-    ensures { λ t. ⌜ TakesLines r (sessionIn st (now (table .entry)) (now (used .entry)) (now (births .entry)) (now (order .entry)) (now (tree1 .entry)) (now (tree2 .entry)) (now (tree3 .entry))) (now (links .entry)) (now (line .entry)) (now (block .entry)) from (t .reader) (sessionIn (t .state) (now (table .exit)) (now (used .exit)) (now (births .exit)) (now (order .exit)) (now (tree1 .exit)) (now (tree2 .exit)) (now (tree3 .exit))) (now (links .exit)) (now (line .exit)) (t .next) (take (t .written) (now (out .exit))) ⌝ }
+    requires { ⌜ (from ≤ length (now block)) × (length (now line) ≡ 6145) × (3072 ≤ length (now numbers)) × (length (now links) ≡ 8192) × (length (now ducts) ≡ 4096) × (8192 ≤ length (now out)) × SizedAs (now table) (now row) (now used) (now births) (now order) (now tree1) (now tree2) (now tree3) × IndexedIn st (now table) (now index) ⌝ }
+    ensures { λ t. ⌜ TakesLines r (sessionIn st (now (table .entry)) (now (row .entry)) (now (used .entry)) (now (births .entry)) (now (order .entry)) (now (tree1 .entry)) (now (tree2 .entry)) (now (tree3 .entry))) (now (links .entry)) (now (ducts .entry)) (now (line .entry)) (now (block .entry)) from (t .reader) (sessionIn (t .state) (now (table .exit)) (now (row .exit)) (now (used .exit)) (now (births .exit)) (now (order .exit)) (now (tree1 .exit)) (now (tree2 .exit)) (now (tree3 .exit))) (now (links .exit)) (now (ducts .exit)) (now (line .exit)) (t .next) (take (t .written) (now (out .exit))) ⌝ }
     ensures { λ t. ⌜ (t .next ≤ length (now (block .entry))) × (from < length (now (block .entry)) → from < t .next) ⌝ }
     ensures { λ t. ⌜ Keeps (t .written) (now (out .entry)) (now (out .exit)) × Keeps 3072 (now (numbers .entry)) (now (numbers .exit)) × IndexedIn (t .state) (now (table .exit)) (now (index .exit)) ⌝ }
 {
@@ -75,7 +77,9 @@ pub fn take_lines(
             line,
             numbers,
             links,
+            ducts,
             table,
+            row,
             used,
             births,
             order,
@@ -111,7 +115,9 @@ pub fn finish(
     line: &mut [u8],
     numbers: &mut [u16],
     links: &mut [u16],
+    ducts: &mut [u8],
     table: &mut [u16],
+    row: &mut [u8],
     used: &mut [u8],
     births: &mut [u16],
     order: &mut [u16],
@@ -121,8 +127,8 @@ pub fn finish(
     index: &mut [u16],
     out: &mut [u8],
 ) -> Finished
-    requires { ⌜ (length (now line) ≡ 6145) × (3072 ≤ length (now numbers)) × (length (now links) ≡ 8192) × (8192 ≤ length (now out)) × SizedAs (now table) (now used) (now births) (now order) (now tree1) (now tree2) (now tree3) × IndexedIn st (now table) (now index) ⌝ }
-    ensures { λ f. ⌜ Finishes r (sessionIn st (now (table .entry)) (now (used .entry)) (now (births .entry)) (now (order .entry)) (now (tree1 .entry)) (now (tree2 .entry)) (now (tree3 .entry))) (now (links .entry)) (now (line .entry)) (f .reader) (sessionIn (f .state) (now (table .exit)) (now (used .exit)) (now (births .exit)) (now (order .exit)) (now (tree1 .exit)) (now (tree2 .exit)) (now (tree3 .exit))) (now (links .exit)) (now (line .exit)) (take (f .written) (now (out .exit))) ⌝ }
+    requires { ⌜ (length (now line) ≡ 6145) × (3072 ≤ length (now numbers)) × (length (now links) ≡ 8192) × (length (now ducts) ≡ 4096) × (8192 ≤ length (now out)) × SizedAs (now table) (now row) (now used) (now births) (now order) (now tree1) (now tree2) (now tree3) × IndexedIn st (now table) (now index) ⌝ }
+    ensures { λ f. ⌜ Finishes r (sessionIn st (now (table .entry)) (now (row .entry)) (now (used .entry)) (now (births .entry)) (now (order .entry)) (now (tree1 .entry)) (now (tree2 .entry)) (now (tree3 .entry))) (now (links .entry)) (now (ducts .entry)) (now (line .entry)) (f .reader) (sessionIn (f .state) (now (table .exit)) (now (row .exit)) (now (used .exit)) (now (births .exit)) (now (order .exit)) (now (tree1 .exit)) (now (tree2 .exit)) (now (tree3 .exit))) (now (links .exit)) (now (ducts .exit)) (now (line .exit)) (take (f .written) (now (out .exit))) ⌝ }
     ensures { λ f. ⌜ Keeps (f .written) (now (out .entry)) (now (out .exit)) × Keeps 3072 (now (numbers .entry)) (now (numbers .exit)) × IndexedIn (f .state) (now (table .exit)) (now (index .exit)) ⌝ }
 {
     if r.held == 0 {
@@ -141,7 +147,9 @@ pub fn finish(
         line,
         numbers,
         links,
+        ducts,
         table,
+        row,
         used,
         births,
         order,

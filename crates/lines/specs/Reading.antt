@@ -7,7 +7,7 @@ use mathlib.Core.Option.{Option, none, some}
 use Prim.Native.Nat.{ℕ, zero, suc, _+_, _-_, _*_, _≤_}
 use lib.Dec.{eqb, ltb}
 use lib.ListN.{length}
-use Rattle.lines.specs.Writing.{ascii, NET, ROOT, FIRST, LAST, LINK, OPEN, EAR, CLOSE, WALK, CLEAR, Form, net, link, opening, ear, closing, walk, clearing, writing, numbersOf}
+use Rattle.lines.specs.Writing.{ascii, NET, ROOT, FIRST, LAST, LINK, DUCT, OPEN, EAR, CLOSE, WALK, CLEAR, Form, net, link, ducted, opening, ear, closing, walk, clearing, writing, numbersOf, ductOf}
 
 -- what follows a part; nothing, where the part does not stand here
 unfoldable pub after : List ℕ → List ℕ → List ℕ
@@ -109,6 +109,16 @@ pairNumbers s =
 abbrev pub pairForm : (ℕ → ℕ → Form) → List ℕ → Option Form
 pairForm form s = cond (ends (pairNumbers s .rest)) (some (form (pairNumbers s .a) (pairNumbers s .b))) none
 
+-- what follows the two numbers of a link that has a duct; a duct over 255 is none
+unfoldable pub ductForm : ℕ → ℕ → List ℕ → Option Form
+ductForm a b s =
+    let duct = namedNumber DUCT s in
+    cond (ltb 255 (duct .value)) none (cond (ends (duct .rest)) (some (ducted a b (duct .value))) none)
+
+-- what follows the word link
+unfoldable pub linkForm : List ℕ → Option Form
+linkForm s = let p = pairNumbers s in cond (ends (p .rest)) (some (link (p .a) (p .b))) (ductForm (p .a) (p .b) (p .rest))
+
 -- what follows a word with no number
 abbrev pub bareForm : Form → List ℕ → Option Form
 bareForm form s = cond (ends s) (some form) none
@@ -127,7 +137,7 @@ bareForms s =
 -- the form that a word other than ear begins
 unfoldable pub otherForms : List ℕ → Option Form
 otherForms s =
-    cond (more (afterWord LINK s)) (pairForm link (afterWord LINK s))
+    cond (more (afterWord LINK s)) (linkForm (afterWord LINK s))
     (cond (more (afterWord WALK s)) (pairForm walk (afterWord WALK s))
     (cond (more (afterWord NET s)) (netForm (afterWord NET s))
     (bareForms s)))
@@ -149,6 +159,7 @@ Narrow (n ∷ ns) = (n ≤ 65535) × Narrow ns
 pub record IsWriting (f : Form) (s : List ℕ) : Type 0 where
   pub bytes : s ≡ writing f
   pub narrow : Narrow (numbersOf f)
+  pub duct : ductOf f ≤ 255
   pub short : length s ≤ 6144
 
 -- a line is read as a form exactly when it is the form's writing, within the limits

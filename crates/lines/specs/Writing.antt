@@ -29,6 +29,10 @@ LAST = ascii "last"
 abbrev pub LINK : List ℕ
 LINK = ascii "link"
 
+-- document 02, Note 7
+abbrev pub DUCT : List ℕ
+DUCT = ascii "duct"
+
 abbrev pub OPEN : List ℕ
 OPEN = ascii "open"
 
@@ -67,17 +71,18 @@ separated (p ∷ ps) = p ++ spaced ps
 unfoldable pub bracketed : List (List ℕ) → List ℕ
 bracketed ps = ascii "(" ++ (separated ps ++ ascii ")")
 
--- the forms of a line
+-- the forms of a line; a link is written without a duct, or with one (document 02, Note 7)
 pub data Form : Type 0 where
   net : (switches root first last : ℕ) → Form
   link : (a b : ℕ) → Form
+  ducted : (a b duct : ℕ) → Form
   opening : Form
   ear : (numbers : List ℕ) → Form
   closing : Form
   walk : (switch tree : ℕ) → Form
   clearing : Form
 
--- a word and one number in brackets, as the named switches are written
+-- a word and one number in brackets, as the named switches and a duct are written
 abbrev pub named : List ℕ → ℕ → List ℕ
 named word n = bracketed (word ∷ decimal n ∷ [])
 
@@ -85,6 +90,7 @@ named word n = bracketed (word ∷ decimal n ∷ [])
 unfoldable pub writing : Form → List ℕ
 writing (net n root first last) = bracketed (NET ∷ decimal n ∷ named ROOT root ∷ named FIRST first ∷ named LAST last ∷ [])
 writing (link a b) = bracketed (LINK ∷ decimal a ∷ decimal b ∷ [])
+writing (ducted a b duct) = bracketed (LINK ∷ decimal a ∷ decimal b ∷ named DUCT duct ∷ [])
 writing opening = bracketed (OPEN ∷ [])
 writing (ear numbers) = bracketed (EAR ∷ map decimal numbers)
 writing closing = bracketed (CLOSE ∷ [])
@@ -95,8 +101,20 @@ writing clearing = bracketed (CLEAR ∷ [])
 abbrev pub numbersOf : Form → List ℕ
 numbersOf (net n root first last) = n ∷ root ∷ first ∷ last ∷ []
 numbersOf (link a b) = a ∷ b ∷ []
+numbersOf (ducted a b duct) = a ∷ b ∷ duct ∷ []
 numbersOf opening = []
 numbersOf (ear numbers) = numbers
 numbersOf closing = []
 numbersOf (walk switch tree) = switch ∷ tree ∷ []
 numbersOf clearing = []
+
+-- the duct of a form; 0, no duct, where it has none
+abbrev pub ductOf : Form → ℕ
+ductOf (net n root first last) = 0
+ductOf (link a b) = 0
+ductOf (ducted a b duct) = duct
+ductOf opening = 0
+ductOf (ear numbers) = 0
+ductOf closing = 0
+ductOf (walk switch tree) = 0
+ductOf clearing = 0

@@ -10,5 +10,6 @@ use Rattle.collect.specs.Dialogue.{turn}
 use Rattle.collect.specs.Answering.{readerIn}
 
 -- the line that is held ends: what is known after it, the session and its reply, whatever was printed before
-abbrev pub TakesLine : Reader → Session → List ℕ → List ℕ → Reader → Session → List ℕ → List ℕ → Type 0
-TakesLine r s links line x s′ links′ bytes = (printed : List ℕ) → readerIn x s′ links′ line (printed ++ bytes) ≡ ended turn (readerIn r s links line printed)
+abbrev pub TakesLine : Reader → Session → List ℕ → List ℕ → List ℕ → Reader → Session → List ℕ → List ℕ → List ℕ → Type 0
+TakesLine r s links ducts line x s′ links′ ducts′ bytes =
+    (printed : List ℕ) → readerIn x s′ links′ ducts′ line (printed ++ bytes) ≡ ended turn (readerIn r s links ducts line printed)

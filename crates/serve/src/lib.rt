@@ -21,7 +21,9 @@ fn serve_call(
     call: Call,
     numbers: &[u16],
     links: &[u16],
+    ducts: &[u8],
     table: &mut [u16],
+    row: &mut [u8],
     used: &mut [u8],
     births: &mut [u16],
     order: &mut [u16],
@@ -31,8 +33,8 @@ fn serve_call(
     index: &mut [u16],
     out: &mut [u8],
 ) -> Called
-    requires { ⌜ (8192 ≤ length (now out)) × SizedAs (now table) (now used) (now births) (now order) (now tree1) (now tree2) (now tree3) × IndexedIn st (now table) (now index) ⌝ }
-    ensures { λ c. ⌜ Serves (Request·.Call call) (now (numbers .entry)) r (sessionIn st (now (table .entry)) (now (used .entry)) (now (births .entry)) (now (order .entry)) (now (tree1 .entry)) (now (tree2 .entry)) (now (tree3 .entry))) (now (links .entry)) (c .reader) (sessionIn (c .state) (now (table .exit)) (now (used .exit)) (now (births .exit)) (now (order .exit)) (now (tree1 .exit)) (now (tree2 .exit)) (now (tree3 .exit))) (take (c .written) (now (out .exit))) ⌝ }
+    requires { ⌜ (8192 ≤ length (now out)) × SizedAs (now table) (now row) (now used) (now births) (now order) (now tree1) (now tree2) (now tree3) × IndexedIn st (now table) (now index) ⌝ }
+    ensures { λ c. ⌜ Serves (Request·.Call call) (now (numbers .entry)) r (sessionIn st (now (table .entry)) (now (row .entry)) (now (used .entry)) (now (births .entry)) (now (order .entry)) (now (tree1 .entry)) (now (tree2 .entry)) (now (tree3 .entry))) (now (links .entry)) (now (ducts .entry)) (c .reader) (sessionIn (c .state) (now (table .exit)) (now (row .exit)) (now (used .exit)) (now (births .exit)) (now (order .exit)) (now (tree1 .exit)) (now (tree2 .exit)) (now (tree3 .exit))) (take (c .written) (now (out .exit))) ⌝ }
     ensures { λ c. ⌜ Keeps (c .written) (now (out .entry)) (now (out .exit)) × IndexedIn (c .state) (now (table .exit)) (now (index .exit)) ⌝ }
 {
     match call {
@@ -40,7 +42,9 @@ fn serve_call(
             r,
             st,
             links,
+            ducts,
             table,
+            row,
             used,
             births,
             order,
@@ -68,6 +72,7 @@ fn serve_call(
         Call::Clear => calls::clear(
             r,
             table,
+            row,
             used,
             births,
             order,
@@ -87,7 +92,9 @@ pub fn take_line(
     line: &[u8],
     numbers: &mut [u16],
     links: &mut [u16],
+    ducts: &mut [u8],
     table: &mut [u16],
+    row: &mut [u8],
     used: &mut [u8],
     births: &mut [u16],
     order: &mut [u16],
@@ -97,11 +104,11 @@ pub fn take_line(
     index: &mut [u16],
     out: &mut [u8],
 ) -> Called
-    requires { ⌜ (3072 ≤ length (now numbers)) × (length (now links) ≡ 8192) × (8192 ≤ length (now out)) × SizedAs (now table) (now used) (now births) (now order) (now tree1) (now tree2) (now tree3) × IndexedIn st (now table) (now index) ⌝ }
-    ensures { λ c. ⌜ TakesLine r (sessionIn st (now (table .entry)) (now (used .entry)) (now (births .entry)) (now (order .entry)) (now (tree1 .entry)) (now (tree2 .entry)) (now (tree3 .entry))) (now (links .entry)) (now (line .entry)) (c .reader) (sessionIn (c .state) (now (table .exit)) (now (used .exit)) (now (births .exit)) (now (order .exit)) (now (tree1 .exit)) (now (tree2 .exit)) (now (tree3 .exit))) (now (links .exit)) (take (c .written) (now (out .exit))) ⌝ }
+    requires { ⌜ (3072 ≤ length (now numbers)) × (length (now links) ≡ 8192) × (length (now ducts) ≡ 4096) × (8192 ≤ length (now out)) × SizedAs (now table) (now row) (now used) (now births) (now order) (now tree1) (now tree2) (now tree3) × IndexedIn st (now table) (now index) ⌝ }
+    ensures { λ c. ⌜ TakesLine r (sessionIn st (now (table .entry)) (now (row .entry)) (now (used .entry)) (now (births .entry)) (now (order .entry)) (now (tree1 .entry)) (now (tree2 .entry)) (now (tree3 .entry))) (now (links .entry)) (now (ducts .entry)) (now (line .entry)) (c .reader) (sessionIn (c .state) (now (table .exit)) (now (row .exit)) (now (used .exit)) (now (births .exit)) (now (order .exit)) (now (tree1 .exit)) (now (tree2 .exit)) (now (tree3 .exit))) (now (links .exit)) (now (ducts .exit)) (take (c .written) (now (out .exit))) ⌝ }
     ensures { λ c. ⌜ Keeps (c .written) (now (out .entry)) (now (out .exit)) × Keeps 3072 (now (numbers .entry)) (now (numbers .exit)) × IndexedIn (c .state) (now (table .exit)) (now (index .exit)) ⌝ }
 {
-    let ending = collect::end_line(r, line, numbers, links, out);
+    let ending = collect::end_line(r, line, numbers, links, ducts, out);
     let reader = ending.reader;
     let request = ending.request;
     match request {
@@ -126,7 +133,9 @@ pub fn take_line(
             call,
             numbers,
             links,
+            ducts,
             table,
+            row,
             used,
             births,
             order,

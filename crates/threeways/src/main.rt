@@ -1,5 +1,5 @@
 // threeways: reads standard input in blocks, hands their bytes to the dialogue, and writes the replies before it reads on.
-// Memory is fixed: one block, one line, the numbers of an ear, the links collected, replies, and the session's arrays with their index.
+// Memory is fixed: one block, one line, the numbers of an ear, the links collected and their ducts, replies, and the session's arrays with their index.
 use blocks::End;
 use blocks::Ended;
 use collect::Reader;
@@ -16,7 +16,9 @@ fn run(
     line: &mut [u8],
     numbers: &mut [u16],
     links: &mut [u16],
+    ducts: &mut [u8],
     table: &mut [u16],
+    row: &mut [u8],
     used: &mut [u8],
     births: &mut [u16],
     order: &mut [u16],
@@ -26,11 +28,11 @@ fn run(
     index: &mut [u16],
     out: &mut [u8],
 ) -> Ended
-    requires { ⌜ (length (now line) ≡ 6145) × (3072 ≤ length (now numbers)) × (length (now links) ≡ 8192) × (8192 ≤ length (now out)) × SizedAs (now table) (now used) (now births) (now order) (now tree1) (now tree2) (now tree3) ⌝ }
-    ensures { λ k. ⌜ EndsWith (k .end) (k .reader) (sessionIn (k .state) (now (table .exit)) (now (used .exit)) (now (births .exit)) (now (order .exit)) (now (tree1 .exit)) (now (tree2 .exit)) (now (tree3 .exit))) (now (links .exit)) (now (line .exit)) ⌝ }
+    requires { ⌜ (length (now line) ≡ 6145) × (3072 ≤ length (now numbers)) × (length (now links) ≡ 8192) × (length (now ducts) ≡ 4096) × (8192 ≤ length (now out)) × SizedAs (now table) (now row) (now used) (now births) (now order) (now tree1) (now tree2) (now tree3) ⌝ }
+    ensures { λ k. ⌜ EndsWith (k .end) (k .reader) (sessionIn (k .state) (now (table .exit)) (now (row .exit)) (now (used .exit)) (now (births .exit)) (now (order .exit)) (now (tree1 .exit)) (now (tree2 .exit)) (now (tree3 .exit))) (now (links .exit)) (now (ducts .exit)) (now (line .exit)) ⌝ }
 {
     let mut reader = Reader::start();
-    let mut state = loading::clear(table, used, births, order, tree1, tree2, tree3, index);
+    let mut state = loading::clear(table, row, used, births, order, tree1, tree2, tree3, index);
     let mut turns = u64::MAX;
     while 0 < turns {
         turns -= 1;
@@ -47,7 +49,9 @@ fn run(
                 line,
                 numbers,
                 links,
+                ducts,
                 table,
+                row,
                 used,
                 births,
                 order,
@@ -65,7 +69,9 @@ fn run(
             line,
             numbers,
             links,
+            ducts,
             table,
+            row,
             used,
             births,
             order,
@@ -117,7 +123,9 @@ fn main() {
     let mut line = [0u8; 6145];
     let mut numbers = [0u16; 3072];
     let mut links = [0u16; 2 * (Session::MAX_LINKS as usize)];
+    let mut ducts = [0u8; Session::MAX_LINKS as usize];
     let mut table = [0u16; 2 * (Session::MAX_LINKS as usize)];
+    let mut row = [0u8; Session::MAX_LINKS as usize];
     let mut used = [0u8; Session::MAX_LINKS as usize];
     let mut births = [0u16; Session::MAX_SWITCHES as usize];
     let mut order = [0u16; Session::MAX_SWITCHES as usize];
@@ -130,7 +138,9 @@ fn main() {
         &mut line,
         &mut numbers,
         &mut links,
+        &mut ducts,
         &mut table,
+        &mut row,
         &mut used,
         &mut births,
         &mut order,

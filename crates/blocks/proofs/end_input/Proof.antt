@@ -6,10 +6,10 @@ use Rattle.blocks.proofs.end_input.Tie as tie
 
 -- where the input was finished, from where the reply is written
 abbrev at-finish : tie.After-write-all → tie.After-finish
-at-finish c = c .before .before .before .before .before .before .before .before .before .before .before .before .before .before .before .before .before .before .before .before .before .before .before .before .before .before .before .before .before
+at-finish c = c .before .before .before .before .before .before .before .before .before .before .before .before .before .before .before .before .before .before .before .before .before .before .before .before .before .before .before .before .before .before .before .before .before
 
 finish-requires : tie.Need-finish-requires
-finish-requires c κs = c .before .before .before .before .before .before .before .before .before .before .before .before .before .before .before .before .before .before .before .before .before .before .before .before .pre
+finish-requires c κs = c .before .before .before .before .before .before .before .before .before .before .before .before .before .before .before .before .before .before .before .before .before .before .before .before .before .before .before .before .pre
 
 reply-requires : tie.Need-reply-requires
 reply-requires c κs = search needs
@@ -53,47 +53,59 @@ same-length-11 c = at-finish (c .before) .finish .kept .1 .1 .1 .1 .1 .1 .1 .1 .
 same-length-12 : tie.Need-same-length-12
 same-length-12 c = at-finish (c .before) .finish .kept .1 .1 .1 .1 .1 .1 .1 .1 .1 .1 .1 .1 .1 .0
 
+same-length-13 : tie.Need-same-length-13
+same-length-13 c = at-finish (c .before) .finish .kept .1 .1 .1 .1 .1 .1 .1 .1 .1 .1 .1 .1 .1 .1 .0
+
+same-length-14 : tie.Need-same-length-14
+same-length-14 c = at-finish (c .before) .finish .kept .1 .1 .1 .1 .1 .1 .1 .1 .1 .1 .1 .1 .1 .1 .1 .0
+
 returns : tie.Need-returns
 unfolding EndsWith
 returns c =
     let f = at-finish (c .before) .finish in
-    λ led. led-end led (f .result .reader) _ _ _ _ (f .ensures .0)
-
-same-length-13 : tie.Need-same-length-13
-same-length-13 c = at-finish (c .before) .finish .kept .1 .1 .0
-
-same-length-14 : tie.Need-same-length-14
-same-length-14 c = at-finish (c .before) .finish .kept .1 .1 .1 .0
+    λ led. led-end led (f .result .reader) _ _ _ _ _ (f .ensures .0)
 
 same-length-15 : tie.Need-same-length-15
-same-length-15 c = at-finish (c .before) .finish .kept .1 .1 .1 .1 .0
+same-length-15 c = at-finish (c .before) .finish .kept .1 .1 .0
 
 same-length-16 : tie.Need-same-length-16
-same-length-16 c = at-finish (c .before) .finish .kept .1 .1 .1 .1 .1 .0
+same-length-16 c = at-finish (c .before) .finish .kept .1 .1 .1 .0
 
 same-length-17 : tie.Need-same-length-17
-same-length-17 c = at-finish (c .before) .finish .kept .1 .1 .1 .1 .1 .1 .0
+same-length-17 c = at-finish (c .before) .finish .kept .1 .1 .1 .1 .0
 
 same-length-18 : tie.Need-same-length-18
-same-length-18 c = at-finish (c .before) .finish .kept .1 .1 .1 .1 .1 .1 .1 .0
+same-length-18 c = at-finish (c .before) .finish .kept .1 .1 .1 .1 .1 .0
 
 same-length-19 : tie.Need-same-length-19
-same-length-19 c = at-finish (c .before) .finish .kept .1 .1 .1 .1 .1 .1 .1 .1 .0
+same-length-19 c = at-finish (c .before) .finish .kept .1 .1 .1 .1 .1 .1 .0
 
 same-length-20 : tie.Need-same-length-20
-same-length-20 c = at-finish (c .before) .finish .kept .1 .1 .1 .1 .1 .1 .1 .1 .1 .0
+same-length-20 c = at-finish (c .before) .finish .kept .1 .1 .1 .1 .1 .1 .1 .0
 
 same-length-21 : tie.Need-same-length-21
-same-length-21 c = at-finish (c .before) .finish .kept .1 .1 .1 .1 .1 .1 .1 .1 .1 .1 .0
+same-length-21 c = at-finish (c .before) .finish .kept .1 .1 .1 .1 .1 .1 .1 .1 .0
 
 same-length-22 : tie.Need-same-length-22
-same-length-22 c = at-finish (c .before) .finish .kept .1 .1 .1 .1 .1 .1 .1 .1 .1 .1 .1 .0
+same-length-22 c = at-finish (c .before) .finish .kept .1 .1 .1 .1 .1 .1 .1 .1 .1 .0
 
 same-length-23 : tie.Need-same-length-23
-same-length-23 c = at-finish (c .before) .finish .kept .1 .1 .1 .1 .1 .1 .1 .1 .1 .1 .1 .1 .0
+same-length-23 c = at-finish (c .before) .finish .kept .1 .1 .1 .1 .1 .1 .1 .1 .1 .1 .0
 
 same-length-24 : tie.Need-same-length-24
-same-length-24 c = at-finish (c .before) .finish .kept .1 .1 .1 .1 .1 .1 .1 .1 .1 .1 .1 .1 .1 .0
+same-length-24 c = at-finish (c .before) .finish .kept .1 .1 .1 .1 .1 .1 .1 .1 .1 .1 .1 .0
+
+same-length-25 : tie.Need-same-length-25
+same-length-25 c = at-finish (c .before) .finish .kept .1 .1 .1 .1 .1 .1 .1 .1 .1 .1 .1 .1 .0
+
+same-length-26 : tie.Need-same-length-26
+same-length-26 c = at-finish (c .before) .finish .kept .1 .1 .1 .1 .1 .1 .1 .1 .1 .1 .1 .1 .1 .0
+
+same-length-27 : tie.Need-same-length-27
+same-length-27 c = at-finish (c .before) .finish .kept .1 .1 .1 .1 .1 .1 .1 .1 .1 .1 .1 .1 .1 .1 .0
+
+same-length-28 : tie.Need-same-length-28
+same-length-28 c = at-finish (c .before) .finish .kept .1 .1 .1 .1 .1 .1 .1 .1 .1 .1 .1 .1 .1 .1 .1 .0
 
 returns-2 : tie.Need-returns-2
 unfolding EndsWith
@@ -118,9 +130,9 @@ end-input-spec =
     same-length-10
     same-length-11
     same-length-12
-    returns
     same-length-13
     same-length-14
+    returns
     same-length-15
     same-length-16
     same-length-17
@@ -131,4 +143,8 @@ end-input-spec =
     same-length-22
     same-length-23
     same-length-24
+    same-length-25
+    same-length-26
+    same-length-27
+    same-length-28
     returns-2)

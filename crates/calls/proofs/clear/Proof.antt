@@ -12,17 +12,17 @@ use Rattle.calls.proofs.clear.Tie as tie
 
 -- the way back from a place to the one before it that is cited
 abbrev before-clear : tie.After-clear → tie.Start
-before-clear c = c .before .before .before .before .before .before .before .before .before .before .before .before .before .before .before .before .before .before
+before-clear c = c .before .before .before .before .before .before .before .before .before .before .before .before .before .before .before .before .before .before .before .before
 
 abbrev before-write : tie.After-write-cleared → tie.After-clear
-before-write c = c .before .before .before .before .before .before .before .before .before .before .before .before .before .before .before .before .before .before
+before-write c = c .before .before .before .before .before .before .before .before .before .before .before .before .before .before .before .before .before .before .before .before
 
 clear-requires : tie.Need-clear-requires
-clear-requires c κs = c .before .before .before .before .before .before .before .before .before .before .before .before .before .before .before .before .before .pre .1
+clear-requires c κs = c .before .before .before .before .before .before .before .before .before .before .before .before .before .before .before .before .before .before .before .pre .1
 
 write-cleared-requires : tie.Need-write-cleared-requires
 write-cleared-requires c κs =
-    let start = before-clear (c .before .before .before .before .before .before .before .before .before .before .before .before .before .before .before .before .before) in
+    let start = before-clear (c .before .before .before .before .before .before .before .before .before .before .before .before .before .before .before .before .before .before .before) in
     omega (arith, start .pre .0)
 
 fresh-requires : tie.Need-fresh-requires
@@ -56,7 +56,10 @@ same-length-8 : tie.Need-same-length-8
 same-length-8 c = before-write (c .before .before .before .before) .clear .kept .1 .1 .1 .1 .1 .1 .1 .0
 
 same-length-9 : tie.Need-same-length-9
-same-length-9 c = c .before .before .before .before .write-cleared .kept .0
+same-length-9 c = before-write (c .before .before .before .before) .clear .kept .1 .1 .1 .1 .1 .1 .1 .1 .0
+
+same-length-10 : tie.Need-same-length-10
+same-length-10 c = c .before .before .before .before .write-cleared .kept .0
 
 returns : tie.Need-returns
 returns c =
@@ -85,4 +88,5 @@ clear-spec =
     same-length-7
     same-length-8
     same-length-9
+    same-length-10
     returns)

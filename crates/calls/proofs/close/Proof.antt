@@ -15,11 +15,11 @@ use borrow.Author.Needs.{needs}
 use Rattle.calls.proofs.close.Statement.{statement}
 use Rattle.calls.proofs.close.Tie as tie
 
--- the session that the lent arrays hold, with the order and trees 1 and 2 whatever they are
-abbrev held : tie.Start → List ℕ → List ℕ → List ℕ → Session
-held c order tree1 tree2 =
+-- the session that the lent arrays hold, with the row of ducts, the order and trees 1 and 2 whatever they are
+abbrev held : tie.Start → List ℕ → List ℕ → List ℕ → List ℕ → Session
+held c row order tree1 tree2 =
     let a = c .args in
-    sessionIn (a .st) (a .table .now) (a .used .now) (a .births .now) order tree1 tree2 (a .tree3 .now)
+    sessionIn (a .st) (a .table .now) row (a .used .now) (a .births .now) order tree1 tree2 (a .tree3 .now)
 
 close-requires : tie.Need-close-requires
 close-requires c κs = search needs
@@ -42,9 +42,9 @@ returns c =
     let at-close = at-reply .before .before .before .before .before in
     let start = at-close .before .before .before .before .before .before .before in
     let a = start .args in
-    let m = ap (λ (o : Outcome Session). o .after .m) (at-close .close .ensures [] [] []) ∙ closed-m shortest (held start [] [] []) in (
-      λ order tree1 tree2.
-          replied-call (a .r) (λ vs. closed) _ _ _ (closeAnswer (at-close .close .result .answer)) _ (c .replied .ensures) (at-close .close .ensures order tree1 tree2)
+    let m = ap (λ (o : Outcome Session). o .after .m) (at-close .close .ensures [] [] [] []) ∙ closed-m shortest (held start [] [] [] []) in (
+      λ row order tree1 tree2.
+          replied-call (a .r) (λ vs. closed) _ _ _ (closeAnswer (at-close .close .result .answer)) _ (c .replied .ensures) (at-close .close .ensures row order tree1 tree2)
           (at-reply .reply-to-close .ensures) .0,
       (printed-keeps (reply (replyTo (λ vs. closed) (closeAnswer (at-close .close .result .answer)))) _ _ _ (at-reply .reply-to-close .ensures), m),
     )

@@ -18,11 +18,11 @@ use borrow.Author.Needs.{needs}
 use Rattle.calls.proofs.offer.Statement.{statement}
 use Rattle.calls.proofs.offer.Tie as tie
 
--- the session that the lent arrays hold, with tree 3 whatever it is
-abbrev held : tie.Start → List ℕ → Session
-held c tree3 =
+-- the session that the lent arrays hold, with the row of ducts and tree 3 whatever they are
+abbrev held : tie.Start → List ℕ → List ℕ → Session
+held c row tree3 =
     let a = c .args in
-    sessionIn (a .st) (a .table .now) (a .used .now) (a .births .now) (a .order .now) (a .tree1 .now) (a .tree2 .now) tree3
+    sessionIn (a .st) (a .table .now) row (a .used .now) (a .births .now) (a .order .now) (a .tree1 .now) (a .tree2 .now) tree3
 
 -- the way back from a place to the one before it that is cited
 abbrev before-least : tie.After-least → tie.Start
@@ -81,10 +81,10 @@ returns c =
     let at-least = before-ear at-ear in
     let start = before-least at-least in
     let a = start .args in
-    let m = ap (λ (o : Outcome Session). o .after .m) (at-ear .ear .ensures []) ∙ offered-m (held start []) _ in (
-      λ tree3.
+    let m = ap (λ (o : Outcome Session). o .after .m) (at-ear .ear .ensures [] []) ∙ offered-m (held start [] []) _ in (
+      λ row tree3.
           replied-call (a .r) (λ vs. new (at vs 0)) _ _ _ (earAnswer (at-ear .ear .result .answer)) _ (c .replied .ensures)
-          (at-ear .ear .ensures tree3 ∙ ap (offeredBy (held start tree3)) (least-take (a .count) (a .numbers .now) (at-least .least .ensures)))
+          (at-ear .ear .ensures row tree3 ∙ ap (offeredBy (held start row tree3)) (least-take (a .count) (a .numbers .now) (at-least .least .ensures)))
           (at-reply .reply-to-ear .ensures) .0,
       (printed-keeps (reply (replyTo (λ vs. new (at vs 0)) (earAnswer (at-ear .ear .result .answer)))) _ _ _ (at-reply .reply-to-ear .ensures), index-kept (a .st) (at-ear .ear .result .state) (a .table .now) (a .index .now) m (start .pre .2)),
     )

@@ -17,10 +17,10 @@ use Rattle.calls.proofs.walk.Statement.{statement}
 use Rattle.calls.proofs.walk.Tie as tie
 
 -- the session that the lent rows hold, with the other arrays whatever they are
-abbrev held : tie.Start → List ℕ → List ℕ → List ℕ → List ℕ → Session
-held c table used births order =
+abbrev held : tie.Start → List ℕ → List ℕ → List ℕ → List ℕ → List ℕ → Session
+held c table row used births order =
     let a = c .args in
-    sessionIn (a .st) table used births order (a .tree1 .now) (a .tree2 .now) (a .tree3 .now)
+    sessionIn (a .st) table row used births order (a .tree1 .now) (a .tree2 .now) (a .tree3 .now)
 
 slice-aggregate-walk : tie.Need-slice-aggregate-walk
 slice-aggregate-walk c = search needs
@@ -49,15 +49,15 @@ returns c =
     let a = start .args in
     let o : Session → Outcome (List ℕ) = λ s. walkedBy s (a .switch) (a .tree) (replicate 1024 0) in
     let w : Session → Reply = λ s. replyTo (λ vs. walked (a .switch) (a .tree) (take (at vs 0) (o s .after))) (o s .answer) in (
-      λ numbers links table used births order.
-          let s = held start table used births order in
-          let e = at-walk .walk .ensures table used births order in
-          serves-replied (Walk (a .switch) (a .tree)) numbers (a .r) s links (c .replied .result) s _ (a .r .kept) s (w s) (λ own. refl)
+      λ numbers links ducts table row used births order.
+          let s = held start table row used births order in
+          let e = at-walk .walk .ensures table row used births order in
+          serves-replied (Walk (a .switch) (a .tree)) numbers (a .r) s links ducts (c .replied .result) s _ (a .r .kept) s (w s) (λ own. refl)
           (replied-walk (a .r) s (a .switch) (a .tree) (o s) _ _ _ (c .replied .ensures) (ap (λ (x : Outcome (List ℕ)). x .answer) e) (ap (λ (x : Outcome (List ℕ)). x .after) e)
           (at-reply .reply-to-walk .ensures) .0),
       (
-        let s = held start [] [] [] [] in
-            let e = at-walk .walk .ensures [] [] [] [] in
+        let s = held start [] [] [] [] [] in
+            let e = at-walk .walk .ensures [] [] [] [] [] in
             replied-walk (a .r) s (a .switch) (a .tree) (o s) _ _ _ (c .replied .ensures) (ap (λ (x : Outcome (List ℕ)). x .answer) e) (ap (λ (x : Outcome (List ℕ)). x .after) e)
             (at-reply .reply-to-walk .ensures) .1,
         refl,

@@ -25,14 +25,17 @@ same-length-2 c = search needs
 same-length-3 : tie.Need-same-length-3
 same-length-3 c = search needs
 
+same-length-4 : tie.Need-same-length-4
+same-length-4 c = search needs
+
 returns : tie.Need-returns
 returns c =
-    let at-respond = c .before .before .before .before in
-    let at-read = at-respond .before .before .before .before .before in
-    let a = at-read .before .before .before .before .before .before .args in
+    let at-respond = c .before .before .before .before .before .before in
+    let at-read = at-respond .before .before .before .before .before .before in
+    let a = at-read .before .before .before .before .before .before .before .args in
     let read = at-read .read-line .ensures in (
       λ s.
-          let d = dialogueIn (a .d) s (a .links .now) in
+          let d = dialogueIn (a .d) s (a .links .now) (a .ducts .now) in
           at-respond .respond .ensures .0 s _
           ∙ ap₂ (λ (l : Line) (ns : List ℕ). respondTo d (a .number) (l .form) ns) (read .0) (read .1)
           ∙ coded-turn d (a .number) (a .bytes .now) (a .numbers .now),
@@ -42,4 +45,11 @@ returns c =
 pub answer-spec : {M : Type 1} → statement M
 answer-spec =
     tie.close
-    (tie.spec read-line-requires respond-requires same-length same-length-2 same-length-3 returns)
+    (tie.spec
+    read-line-requires
+    respond-requires
+    same-length
+    same-length-2
+    same-length-3
+    same-length-4
+    returns)

@@ -17,13 +17,13 @@ returns : tie.Need-returns
 returns c =
     let at-unread = c .before .before in
     let at-if = at-unread .before .before in
-    let start = at-if .before .before .before in
+    let start = at-if .before .before .before .before in
     let a = start .args in
-    let full = link-full (a .d) (a .links .now) (a .number) (a .a) (a .b) (start .pre .0) _ (at-unread .unread .result) (omega (arith, at-if .if1 .taken)) (at-unread .unread .ensures .0) in
+    let full = link-full (a .d) (a .links .now) (a .ducts .now) (a .number) (a .a) (a .b) (a .duct) (start .pre .0) (start .pre .1) _ (at-unread .unread .result) (omega (arith, at-if .if1 .taken)) (at-unread .unread .ensures .0) in
     (full, at-unread .unread .ensures .1)
 
-cast-i : tie.Need-cast-i
-cast-i c = search needs
+cast-at : tie.Need-cast-at
+cast-at c = search needs
 
 mul-i : tie.Need-mul-i
 mul-i c = search needs
@@ -42,11 +42,14 @@ mul-links-2 c = search needs
 
 slice-write-links-2 : tie.Need-slice-write-links-2
 slice-write-links-2 c =
-    let start = c .before .before .before in
+    let start = c .before .before .before .before in
     let a = start .args in
     let i = 2 * a .d .count in
     let z : i + 1 < length (set (a .links .now) i (a .a)) = omega (arith, c .if1 .left, start .pre .0, length-set (a .links .now) i (a .a)) in
     z
+
+slice-write-ducts : tie.Need-slice-write-ducts
+slice-write-ducts c = search needs
 
 add-kept : tie.Need-add-kept
 add-kept c = search needs
@@ -57,11 +60,15 @@ asking-requires c κs = search needs
 same-length-2 : tie.Need-same-length-2
 same-length-2 c = search needs
 
+same-length-3 : tie.Need-same-length-3
+same-length-3 c = search needs
+
 returns-2 : tie.Need-returns-2
 returns-2 c =
-    let start = c .before .before .before .before in
+    let start = c .before .before .before .before .before in
     let a = start .args in
-    (link-more (a .d) (a .links .now) (a .number) (a .a) (a .b) (start .pre .0) (a .out .now) (c .asking .result) (omega (arith, c .before .if1 .left)) (c .asking .ensures), refl)
+    let more = link-more (a .d) (a .links .now) (a .ducts .now) (a .number) (a .a) (a .b) (a .duct) (start .pre .0) (start .pre .1) (a .out .now) (c .asking .result) (omega (arith, c .before .if1 .left)) (c .asking .ensures) in
+    (more, refl)
 
 pub collect-link-spec : {M : Type 1} → statement M
 collect-link-spec =
@@ -70,14 +77,16 @@ collect-link-spec =
     unread-requires
     same-length
     returns
-    cast-i
+    cast-at
     mul-i
     mul-links
     slice-write-links
     add-links
     mul-links-2
     slice-write-links-2
+    slice-write-ducts
     add-kept
     asking-requires
     same-length-2
+    same-length-3
     returns-2)

@@ -10,16 +10,16 @@ use Rattle.collect.proofs.end_line.Tie as tie
 
 -- the start, where it is known that more is read, and where the line is answered
 abbrev start : tie.After-over → tie.Start
-start c = c .before .before .before .before .before
+start c = c .before .before .before .before .before .before
 
 abbrev at-over : tie.After-struct-known → tie.After-over
 at-over c = c .before .before .before .before
 
 abbrev at-answer : tie.After-struct-known2 → tie.After-answer
-at-answer c = c .before .before .before .before .before .before .before .before
+at-answer c = c .before .before .before .before .before .before .before .before .before .before
 
 abbrev at-least : tie.After-answer → tie.After-struct-known
-at-least c = c .before .before .before .before .before
+at-least c = c .before .before .before .before .before .before
 
 -- the line's number
 number-fits : (c : tie.After-struct-known) → start (at-over c) .args .r .number ≤ 65535
@@ -35,7 +35,7 @@ returns : tie.Need-returns
 returns c =
     let o = c .before .before in
     let a = start o .args in
-    (end-quiet (a .r) (a .links .now) (a .line .now) (o .over .ensures) _ (a .out .now) (c .quiet .result) (c .before .if1 .taken) (c .quiet .ensures), (refl, refl))
+    (end-quiet (a .r) (a .links .now) (a .ducts .now) (a .line .now) (o .over .ensures) _ (a .out .now) (c .quiet .result) (c .before .if1 .taken) (c .quiet .ensures), (refl, refl))
 
 least-requires : tie.Need-least-requires
 least-requires c κs = search needs
@@ -53,8 +53,8 @@ slice-aggregate-answer c =
 answer-requires : tie.Need-answer-requires
 answer-requires c κs = search needs
 
-add-t23 : tie.Need-add-t23
-add-t23 c = omega (arith, number-fits (at-least (at-answer c)))
+add-t26 : tie.Need-add-t26
+add-t26 c = omega (arith, number-fits (at-least (at-answer c)))
 
 same-length : tie.Need-same-length
 same-length c = search needs
@@ -65,13 +65,16 @@ same-length-2 c = search needs
 same-length-3 : tie.Need-same-length-3
 same-length-3 c = search needs
 
+same-length-4 : tie.Need-same-length-4
+same-length-4 c = search needs
+
 returns-2 : tie.Need-returns-2
 returns-2 c =
     let w = at-answer c in
     let o = at-over (at-least w) in
     let a = start o .args in
     let read = at-least w .before .before .before .if1 .left in
-    let ends = end-turn (a .r) (a .links .now) (a .line .now) (o .over .ensures) _ _ _ (w .answer .result) read (at-least w .before .before .least .ensures) (w .answer .ensures .0) in
+    let ends = end-turn (a .r) (a .links .now) (a .ducts .now) (a .line .now) (o .over .ensures) _ _ _ _ (w .answer .result) read (at-least w .before .before .least .ensures) (w .answer .ensures .0) in
     (ends, w .answer .ensures .1)
 
 pub end-line-spec : {M : Type 1} → statement M
@@ -85,8 +88,9 @@ end-line-spec =
     cast-answer
     slice-aggregate-answer
     answer-requires
-    add-t23
+    add-t26
     same-length
     same-length-2
     same-length-3
+    same-length-4
     returns-2)

@@ -1,5 +1,5 @@
 use mathlib.Core.Path.{ap, _∙_}
-use Rattle.lines.specs.Writing.{link, walk}
+use Rattle.lines.specs.Writing.{walk}
 use Rattle.lines.specs.Reading.{otherForms, pairNumbers}
 use Rattle.lines.proofs.Steps.{some-left, none-left, pair-coded}
 use borrow.Author.Needs.{needs}
@@ -12,15 +12,12 @@ slice-aggregate-after-word c = search needs
 after-word-requires : tie.Need-after-word-requires
 after-word-requires c κs = search needs
 
-pair-at-requires : tie.Need-pair-at-requires
-pair-at-requires c κs = search needs
-
-whole-requires : tie.Need-whole-requires
-whole-requires c κs = search needs
+link-form-requires : tie.Need-link-form-requires
+link-form-requires c κs = search needs
 
 returns : tie.Need-returns
 unfolding otherForms
-returns c = c .whole .ensures ∙ pair-coded link _ (c .before .pair-at .ensures ∙ ap pairNumbers (c .before .before .before .after-word .ensures)) ∙ simp (some-left _ _ (c .before .before .before .after-word .ensures) (c .before .before .if1 .taken))
+returns c = c .link-form .ensures ∙ simp (c .before .before .after-word .ensures, some-left _ _ (c .before .before .after-word .ensures) (c .before .if1 .taken))
 
 slice-aggregate-after-word-2 : tie.Need-slice-aggregate-after-word-2
 slice-aggregate-after-word-2 c = search needs
@@ -28,15 +25,15 @@ slice-aggregate-after-word-2 c = search needs
 after-word-requires-2 : tie.Need-after-word-requires-2
 after-word-requires-2 c κs = search needs
 
-pair-at-requires-2 : tie.Need-pair-at-requires-2
-pair-at-requires-2 c κs = search needs
+pair-at-requires : tie.Need-pair-at-requires
+pair-at-requires c κs = search needs
 
-whole-requires-2 : tie.Need-whole-requires-2
-whole-requires-2 c κs = search needs
+whole-requires : tie.Need-whole-requires
+whole-requires c κs = search needs
 
 returns-2 : tie.Need-returns-2
 unfolding otherForms
-returns-2 c = c .whole2 .ensures ∙ pair-coded walk _ (c .before .pair-at2 .ensures ∙ ap pairNumbers (c .before .before .before .after-word2 .ensures)) ∙ simp (none-left _ _ (c .before .before .before .before .before .before .after-word .ensures) (c .before .before .before .before .before .if1 .left), some-left _ _ (c .before .before .before .after-word2 .ensures) (c .before .before .if2 .taken))
+returns-2 c = c .whole .ensures ∙ pair-coded walk _ (c .before .pair-at .ensures ∙ ap pairNumbers (c .before .before .before .after-word2 .ensures)) ∙ simp (none-left _ _ (c .before .before .before .before .before .before .after-word .ensures) (c .before .before .before .before .before .if1 .left), some-left _ _ (c .before .before .before .after-word2 .ensures) (c .before .before .if2 .taken))
 
 slice-aggregate-after-word-3 : tie.Need-slice-aggregate-after-word-3
 slice-aggregate-after-word-3 c = search needs
@@ -64,13 +61,12 @@ other-forms-spec =
     (tie.spec
     slice-aggregate-after-word
     after-word-requires
-    pair-at-requires
-    whole-requires
+    link-form-requires
     returns
     slice-aggregate-after-word-2
     after-word-requires-2
-    pair-at-requires-2
-    whole-requires-2
+    pair-at-requires
+    whole-requires
     returns-2
     slice-aggregate-after-word-3
     after-word-requires-3
