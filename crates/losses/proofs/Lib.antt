@@ -1,0 +1,3 @@
+pub mod Losses
+pub mod Cards
+pub mod Calls

@@ -1,0 +1,5 @@
+pub mod Steps
+pub mod Ducts
+pub mod Marks
+pub mod Sums
+pub mod Losses
