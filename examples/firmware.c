@@ -1,5 +1,5 @@
-/* A switch that judges an ear list, sets its three forwarding tables and parts its network into three maintenance zones: document 01's
- * worked network, as in examples/worked.plan. The session is static and nothing is allocated. Exit status: 0, or 1 after a refusal that
+/* A switch that judges an ear list, sets its three forwarding tables, parts its network into three maintenance zones and reports what one
+ * dig may cost: document 01's worked network, as in examples/worked.plan, with a duct. Session and report are static and nothing is allocated. Exit status: 0, or 1 after a refusal that
  * was not expected. */
 #include <stdio.h>
 #include <stdlib.h>
@@ -8,9 +8,11 @@
 
 enum { TREES = 3, ZONES = 3 };
 
+enum { DUCT = 7 };                                      /* the duct of three cables, from the root to 1, to 3, and from 1 to 2 */
+
 /* The plan: 4 switches with root 0, first 1 and last 3; an ear that a planner got wrong; and the list, each ear preceded by its count of
  * switches: two long ears, and an empty one, which takes the links that they leave. */
-static const uint16_t links[] = { 0, 1, 0, 2, 0, 3, 1, 2, 1, 3, 2, 3 };
+static const struct threeways_link links[] = { { 0, 1, DUCT }, { 0, 2, 0 }, { 0, 3, DUCT }, { 1, 2, DUCT }, { 1, 3, 0 }, { 2, 3, 0 } };
 static const uint16_t wrong_ear[] = { 0, 2, 3, 1 };
 static const uint16_t list[] = { 3, 0, 2, 1, 3, 2, 3, 1, 0 };
 static const uint16_t sizes[ZONES] = { 1, 2, 1 };       /* of the zones: they add up to 4 */
@@ -18,6 +20,7 @@ static const uint16_t sizes[ZONES] = { 1, 2, 1 };       /* of the zones: they ad
 #define COUNT(array) (sizeof(array) / sizeof((array)[0]))
 
 static struct threeways_session session;                /* zeros: the empty session */
+static struct threeways_report report;                  /* by duct, over the sessions that are added */
 static uint16_t forward[TREES][THREEWAYS_MAX_SWITCHES]; /* by tree and switch: the next switch on the way to the root */
 
 /* Ends the program where a call was refused that should succeed. */
@@ -103,6 +106,15 @@ static void print_zones(void)
     }
 }
 
+/* Begins a report, adds the session, and prints how many switches lose two walks, and all three, when the duct is cut. */
+static void print_report(void)
+{
+    require("report", threeways_report_begin(&report));
+    require("report", threeways_report_add(&report, &session));
+    printf("duct %u of %u session: %u switches lose two walks, %u all three\n", (unsigned)DUCT, (unsigned)report.sessions,
+        (unsigned)report.two[DUCT], (unsigned)report.three[DUCT]);
+}
+
 int main(void)
 {
     judge();
@@ -110,5 +122,6 @@ int main(void)
     for (uint16_t s = 0; s < session.n; s++)
         print_routes(s);
     print_zones();
+    print_report();
     return EXIT_SUCCESS;
 }

@@ -1,13 +1,13 @@
-/* Three routes to the root of a control network: the calls of a session, for C99 and C++ on x86-64. Link with libthreeways_c.a.
+/* Three routes to the root of a control network: the calls of a session and of a report on ducts, for C99 and C++ on x86-64. Link with libthreeways_c.a.
  * docs/FIRMWARE.md has memory, stack and cost; docs/USER.md says what each refusal means and what to do.
  *
- * Proved, of each function of the archive: for any contents of the session and any arguments it ends, does what the definition of
+ * Proved, of each function of the archive: for any contents of session and report and any arguments it ends, does what the definition of
  * its call says, and reads and writes nothing but what it is lent; after a refusal nothing has changed, outputs included. In a list of
  * ears each ear counts as a call of its own: the accepted ones stay, and their count is written, also where the next is refused.
  *
- * Trusted, in C: that the wrappers at the end of this file pass the parts of a session in the order of the prototypes; that every
- * pointer is good for the count beside it; that what you lend (links, ear, list, out, outputs) lies outside the session and does not
- * overlap; that a session has one caller at a time; and that there is stack enough (docs/FIRMWARE.md).
+ * Trusted, in C: that the wrappers at the end of this file pass the parts of the structs in the order of the prototypes; that every
+ * pointer is good for the count beside it; that what you lend (links, ear, list, out, report, outputs) lies outside the session and does not
+ * overlap; that a session or a report has one caller at a time; and that there is stack enough (docs/FIRMWARE.md).
  */
 #ifndef THREEWAYS_H
 #define THREEWAYS_H
@@ -23,13 +23,23 @@ enum {
     THREEWAYS_MIN_SWITCHES = 4,
     THREEWAYS_MAX_SWITCHES = 1024,
     THREEWAYS_MIN_LINKS = 6,
-    THREEWAYS_MAX_LINKS = 4096
+    THREEWAYS_MAX_LINKS = 4096,
+    THREEWAYS_DUCTS = 256,                          /* ducts have the numbers 1 to 255; 0 is none */
+    THREEWAYS_MAX_SESSIONS = 65535                  /* that one report adds */
 };
 
 /* The stage of a session; any other number is read as empty. */
 enum { THREEWAYS_EMPTY = 0, THREEWAYS_OPEN = 1, THREEWAYS_CLOSED = 2 };
 
-/* A session: plain numbers, 30,736 bytes. Copying it copies the session, and all zeros is the empty one. */
+/* A link record: the two switches that it joins, and the number of the duct that it lies in, 1 to 255, or 0 for none. */
+struct threeways_link {
+    uint16_t a, b;
+    uint8_t duct;
+};
+
+typedef char threeways_link_has_6_bytes[sizeof(struct threeways_link) == 6 ? 1 : -1];
+
+/* A session: plain numbers, 34,832 bytes. Copying it copies the session, and all zeros is the empty one. */
 struct threeways_session {
     uint16_t stage;
     uint16_t n;                                     /* switches of the network that is loaded, 0 to n - 1 */
@@ -38,6 +48,7 @@ struct threeways_session {
     uint16_t longs;                                 /* long ears accepted */
     uint16_t born;                                  /* switches born */
     uint16_t links[2 * THREEWAYS_MAX_LINKS];        /* two numbers for each link */
+    uint8_t ducts[THREEWAYS_MAX_LINKS];             /* by link: its duct, 0 for none */
     uint8_t used[THREEWAYS_MAX_LINKS];              /* by link: 1 where an ear has used it */
     uint16_t births[THREEWAYS_MAX_SWITCHES];        /* by switch: the long ear that it was born in, from 1; 0 unborn */
     uint16_t order[THREEWAYS_MAX_SWITCHES];         /* the switches born, in their order */
@@ -46,7 +57,18 @@ struct threeways_session {
     uint16_t tree3[THREEWAYS_MAX_SWITCHES];
 };
 
-typedef char threeways_session_has_30736_bytes[sizeof(struct threeways_session) == 30736 ? 1 : -1];
+typedef char threeways_session_has_34832_bytes[sizeof(struct threeways_session) == 34832 ? 1 : -1];
+
+/* A report on ducts, a state apart from the sessions: over all sessions that were added, by duct 1 to 255, how many switches other than the
+ * root lose exactly two of their three walks when all links of the duct fail, and how many lose all three. Places 0 stay 0. All zeros is
+ * the empty report. */
+struct threeways_report {
+    uint16_t sessions;                              /* sessions added */
+    uint32_t two[THREEWAYS_DUCTS];
+    uint32_t three[THREEWAYS_DUCTS];
+};
+
+typedef char threeways_report_has_2052_bytes[sizeof(struct threeways_report) == 2052 ? 1 : -1];
 
 /* What every call gives: the number of the refusal and its place; number 0 where the call succeeded. */
 struct threeways_refusal {
@@ -63,6 +85,7 @@ struct threeways_refusal threeways_clear_in(
     uint16_t *stage, uint16_t *n, uint16_t *m, uint16_t *root,
     uint16_t *first, uint16_t *last, uint16_t *longs, uint16_t *born,
     uint16_t *links, size_t links_count,
+    uint8_t *ducts, size_t ducts_count,
     uint8_t *used, size_t used_count,
     uint16_t *births, size_t births_count,
     uint16_t *order, size_t order_count,
@@ -71,17 +94,18 @@ struct threeways_refusal threeways_clear_in(
     uint16_t *tree3, size_t tree3_count);
 
 struct threeways_refusal threeways_load_in(
+    const struct threeways_link *new_links, size_t new_links_count,
     uint16_t *stage, uint16_t *n, uint16_t *m, uint16_t *root,
     uint16_t *first, uint16_t *last, uint16_t *longs, uint16_t *born,
     uint16_t *links, size_t links_count,
+    uint8_t *ducts, size_t ducts_count,
     uint8_t *used, size_t used_count,
     uint16_t *births, size_t births_count,
     uint16_t *order, size_t order_count,
     uint16_t *tree1, size_t tree1_count,
     uint16_t *tree2, size_t tree2_count,
     uint16_t *tree3, size_t tree3_count,
-    uint16_t new_n, const uint16_t *new_links, size_t new_links_count,
-    uint16_t new_root, uint16_t new_first, uint16_t new_last);
+    uint16_t new_n, uint16_t new_root, uint16_t new_first, uint16_t new_last);
 
 struct threeways_refusal threeways_ear_in(
     uint16_t stage, uint16_t n, uint16_t m, uint16_t root,
@@ -143,6 +167,23 @@ struct threeways_refusal threeways_zones_in(
     const uint16_t *order, size_t order_count,
     uint16_t size1, uint16_t size2, uint16_t size3, uint16_t *out, size_t out_count);
 
+struct threeways_refusal threeways_report_begin_in(
+    uint16_t *sessions,
+    uint32_t *two, size_t two_count,
+    uint32_t *three, size_t three_count);
+
+struct threeways_refusal threeways_report_add_in(
+    uint16_t *sessions,
+    uint32_t *two, size_t two_count,
+    uint32_t *three, size_t three_count,
+    uint16_t stage, uint16_t n, uint16_t m, uint16_t root,
+    uint16_t first, uint16_t last, uint16_t longs, uint16_t born,
+    const uint16_t *links, size_t links_count,
+    const uint8_t *ducts, size_t ducts_count,
+    const uint16_t *tree1, size_t tree1_count,
+    const uint16_t *tree2, size_t tree2_count,
+    const uint16_t *tree3, size_t tree3_count);
+
 /* An array of a session as it is passed: the pointer, and the count of its elements. */
 #define THREEWAYS_ARRAY(array) (array), sizeof(array) / sizeof((array)[0])
 
@@ -150,19 +191,19 @@ struct threeways_refusal threeways_zones_in(
 static inline struct threeways_refusal threeways_clear(struct threeways_session *s)
 {
     return threeways_clear_in(&s->stage, &s->n, &s->m, &s->root, &s->first, &s->last, &s->longs, &s->born,
-        THREEWAYS_ARRAY(s->links), THREEWAYS_ARRAY(s->used), THREEWAYS_ARRAY(s->births), THREEWAYS_ARRAY(s->order),
-        THREEWAYS_ARRAY(s->tree1), THREEWAYS_ARRAY(s->tree2), THREEWAYS_ARRAY(s->tree3));
+        THREEWAYS_ARRAY(s->links), THREEWAYS_ARRAY(s->ducts), THREEWAYS_ARRAY(s->used), THREEWAYS_ARRAY(s->births),
+        THREEWAYS_ARRAY(s->order), THREEWAYS_ARRAY(s->tree1), THREEWAYS_ARRAY(s->tree2), THREEWAYS_ARRAY(s->tree3));
 }
 
-/* Loads a network of n switches into an empty session: `numbers` numbers at `links`, two for each link. Then s->n and s->m tell its
- * size. Refusals 20, then 1 to 6. */
-static inline struct threeways_refusal threeways_load(struct threeways_session *s, uint16_t n, const uint16_t *links,
-    size_t numbers, uint16_t root, uint16_t first, uint16_t last)
+/* Loads a network of n switches and `count` links into an empty session. Then s->n and s->m tell its size, and s->ducts the duct of each
+ * link. Another duct does not make another link. Refusals 20, then 1 to 6. */
+static inline struct threeways_refusal threeways_load(struct threeways_session *s, uint16_t n, const struct threeways_link *links,
+    size_t count, uint16_t root, uint16_t first, uint16_t last)
 {
-    return threeways_load_in(&s->stage, &s->n, &s->m, &s->root, &s->first, &s->last, &s->longs, &s->born,
-        THREEWAYS_ARRAY(s->links), THREEWAYS_ARRAY(s->used), THREEWAYS_ARRAY(s->births), THREEWAYS_ARRAY(s->order),
-        THREEWAYS_ARRAY(s->tree1), THREEWAYS_ARRAY(s->tree2), THREEWAYS_ARRAY(s->tree3),
-        n, links, numbers, root, first, last);
+    return threeways_load_in(links, count, &s->stage, &s->n, &s->m, &s->root, &s->first, &s->last, &s->longs, &s->born,
+        THREEWAYS_ARRAY(s->links), THREEWAYS_ARRAY(s->ducts), THREEWAYS_ARRAY(s->used), THREEWAYS_ARRAY(s->births),
+        THREEWAYS_ARRAY(s->order), THREEWAYS_ARRAY(s->tree1), THREEWAYS_ARRAY(s->tree2), THREEWAYS_ARRAY(s->tree3),
+        n, root, first, last);
 }
 
 /* Offers an ear of `count` switch numbers to an open session, and writes how many switches are new. With a count of 0 it is the empty
@@ -232,6 +273,21 @@ static inline struct threeways_refusal threeways_zones(const struct threeways_se
 {
     return threeways_zones_in(s->stage, s->n, s->m, s->root, s->first, s->last, s->longs, s->born,
         THREEWAYS_ARRAY(s->births), THREEWAYS_ARRAY(s->order), size1, size2, size3, out, room);
+}
+
+/* Makes any memory the empty report. Always succeeds. */
+static inline struct threeways_refusal threeways_report_begin(struct threeways_report *r)
+{
+    return threeways_report_begin_in(&r->sessions, THREEWAYS_ARRAY(r->two), THREEWAYS_ARRAY(r->three));
+}
+
+/* Adds a closed session to a report, by the walks of its own tables: r->sessions is one more, and r->two and r->three have its switches too.
+ * The session is only read. Refusals 19, 21, then 25 (the report has 65,535 sessions). */
+static inline struct threeways_refusal threeways_report_add(struct threeways_report *r, const struct threeways_session *s)
+{
+    return threeways_report_add_in(&r->sessions, THREEWAYS_ARRAY(r->two), THREEWAYS_ARRAY(r->three),
+        s->stage, s->n, s->m, s->root, s->first, s->last, s->longs, s->born, THREEWAYS_ARRAY(s->links), THREEWAYS_ARRAY(s->ducts),
+        THREEWAYS_ARRAY(s->tree1), THREEWAYS_ARRAY(s->tree2), THREEWAYS_ARRAY(s->tree3));
 }
 
 #ifdef __cplusplus

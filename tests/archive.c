@@ -16,17 +16,24 @@ SESSION(last, 10);
 SESSION(longs, 12);
 SESSION(born, 14);
 SESSION(links, 16);
-SESSION(used, 16400);
-SESSION(births, 20496);
-SESSION(order, 22544);
-SESSION(tree1, 24592);
-SESSION(tree2, 26640);
-SESSION(tree3, 28688);
+SESSION(ducts, 16400);
+SESSION(used, 20496);
+SESSION(births, 24592);
+SESSION(order, 26640);
+SESSION(tree1, 28688);
+SESSION(tree2, 30736);
+SESSION(tree3, 32784);
+AT(threeways_link, a, 0);
+AT(threeways_link, b, 2);
+AT(threeways_link, duct, 4);
+AT(threeways_report, sessions, 0);
+AT(threeways_report, two, 4);
+AT(threeways_report, three, 1028);
 AT(threeways_refusal, number, 0);
 AT(threeways_refusal, place, 2);
 typedef char threeways_refusal_has_4_bytes[sizeof(struct threeways_refusal) == 4 ? 1 : -1];
 
-static const uint16_t links[] = { 0, 1, 0, 2, 0, 3, 1, 2, 1, 3, 2, 3 };
+static const struct threeways_link links[] = { { 0, 1, 7 }, { 0, 2, 0 }, { 0, 3, 255 }, { 1, 2, 7 }, { 1, 3, 1 }, { 2, 3, 0 } };
 static const uint16_t ears[3][3] = { { 0, 2, 1 }, { 2, 3, 1 }, { 0, 3 } };
 static const uint16_t list[] = { 3, 0, 2, 1, 3, 2, 3, 1, 2, 0, 3 };   /* these ears, each preceded by its count */
 static const uint16_t longs[] = { 3, 0, 2, 1, 3, 2, 3, 1, 0 };        /* the long ones of them, and an empty ear */
@@ -36,10 +43,10 @@ static struct threeways_session session, other, zeros;
 
 /* The session after load, and after its ears and close. The rest of each array is 0, of tree 3 after close it is n. */
 static const struct threeways_session loaded = { .stage = THREEWAYS_OPEN, .n = 4, .m = 6, .root = 0, .first = 1, .last = 3,
-    .links = { 0, 1, 0, 2, 0, 3, 1, 2, 1, 3, 2, 3 } };
+    .links = { 0, 1, 0, 2, 0, 3, 1, 2, 1, 3, 2, 3 }, .ducts = { 7, 0, 255, 7, 1, 0 } };
 static struct threeways_session done = { .stage = THREEWAYS_CLOSED, .n = 4, .m = 6, .root = 0, .first = 1, .last = 3, .longs = 2,
-    .born = 4, .links = { 0, 1, 0, 2, 0, 3, 1, 2, 1, 3, 2, 3 }, .used = { 1, 1, 1, 1, 1, 1 }, .births = { 1, 1, 1, 2 },
-    .order = { 0, 2, 3, 1 }, .tree1 = { 0, 2, 0, 2 }, .tree2 = { 0, 0, 1, 1 }, .tree3 = { 0, 3, 3, 0 } };
+    .born = 4, .links = { 0, 1, 0, 2, 0, 3, 1, 2, 1, 3, 2, 3 }, .ducts = { 7, 0, 255, 7, 1, 0 }, .used = { 1, 1, 1, 1, 1, 1 },
+    .births = { 1, 1, 1, 2 }, .order = { 0, 2, 3, 1 }, .tree1 = { 0, 2, 0, 2 }, .tree2 = { 0, 0, 1, 1 }, .tree3 = { 0, 3, 3, 0 } };
 
 static uint16_t out[4] = { 9, 9, 9, 9 }, count = 9;
 static size_t accepted;
@@ -64,7 +71,7 @@ static struct threeways_refusal offer(struct threeways_session *s, const uint16_
     return threeways_ears(s, numbers, length, &accepted);
 }
 
-static struct threeways_refusal load(struct threeways_session *s) { return threeways_load(s, 4, links, 12, 0, 1, 3); }
+static struct threeways_refusal load(struct threeways_session *s) { return threeways_load(s, 4, links, 6, 0, 1, 3); }
 
 static void empty_session(void)
 {
@@ -82,6 +89,44 @@ static void empty_session(void)
     hold(is(load(&session), 0, 0) && same(&session, &loaded), "any other stage is empty: load succeeds, and fills the fields");
     session = zeros;
     hold(is(load(&session), 0, 0) && same(&session, &loaded), "zeros are an empty session: load succeeds, and fills the fields");
+}
+
+/* The ducts of the links that are lent. */
+static void ducts(void)
+{
+    static struct threeways_link lent[7], many[65536 + 6];
+    struct threeways_session *s = &session;
+    memset(s, 0xa5, sizeof *s);
+    hold(is(load(s), 0, 0) && same(s, &loaded), "load sets the ducts of any memory, and 0 past the links");
+    hold(is(load(s), 20, 0) && same(s, &loaded), "load of an open session is 20 at 0, and leaves its ducts");
+    memset(lent, 0xff, sizeof lent);
+    for (size_t i = 0; i < 6; i++) {
+        lent[i].a = links[i].a;
+        lent[i].b = links[i].b;
+        lent[i].duct = links[i].duct;
+    }
+    *s = zeros;
+    hold(is(threeways_load(s, 4, lent, 6, 0, 1, 3), 0, 0) && same(s, &loaded), "what lies between two records is not looked at");
+    lent[6].a = 3;
+    lent[6].b = 1;
+    memset(s, 0xa5, sizeof *s);
+    other = *s;
+    hold(is(threeways_load(s, 4, lent, 7, 0, 1, 3), 4, 6), "a link that is repeated with another duct is 4 at the repeat");
+    lent[6].duct = lent[4].duct;
+    hold(is(threeways_load(s, 4, lent, 7, 0, 1, 3), 4, 6), "so it is with the same duct");
+    hold(is(threeways_load(s, 4, lent, 5, 0, 1, 3), 1, 0), "five links are 1 at 0");
+    hold(is(threeways_load(s, 4, many, 4097, 0, 1, 3), 1, 0), "4,097 links are 1 at 0");
+    memcpy(many, links, sizeof links);
+    hold(is(threeways_load(s, 4, many, 65536 + 6, 0, 1, 3), 1, 0), "65,542 links are 1 at 0");
+    hold(is(threeways_load(s, 4, many, 4096, 0, 1, 3), 3, 6), "4,096 links pass that check");
+    hold(is(threeways_load_in(links, 6, &s->stage, &s->n, &s->m, &s->root, &s->first, &s->last, &s->longs, &s->born, THREEWAYS_ARRAY(s->links),
+        s->ducts, 4095, THREEWAYS_ARRAY(s->used), THREEWAYS_ARRAY(s->births), THREEWAYS_ARRAY(s->order), THREEWAYS_ARRAY(s->tree1),
+        THREEWAYS_ARRAY(s->tree2), THREEWAYS_ARRAY(s->tree3), 4, 0, 1, 3), THREEWAYS_LENGTHS, 0), "load with ducts of another length is 255 at 0");
+    hold(is(threeways_clear_in(&s->stage, &s->n, &s->m, &s->root, &s->first, &s->last, &s->longs, &s->born, THREEWAYS_ARRAY(s->links),
+        s->ducts, 4097, THREEWAYS_ARRAY(s->used), THREEWAYS_ARRAY(s->births), THREEWAYS_ARRAY(s->order), THREEWAYS_ARRAY(s->tree1),
+        THREEWAYS_ARRAY(s->tree2), THREEWAYS_ARRAY(s->tree3)), THREEWAYS_LENGTHS, 0), "clear with ducts of another length is 255 at 0");
+    hold(same(s, &other), "refused calls leave the ducts, and all else");
+    *s = loaded;
 }
 
 static void open_session(void)
@@ -144,16 +189,19 @@ static void leftover_links(void)
     hold(is(threeways_close(s), 0, 0) && same(s, &done), "close succeeds, and the fields are the same again");
 }
 
-/* Five switches, each two joined: a switch between the ends that is born is told before a used link and before an unborn end. */
+/* Five switches, each two joined. */
+static const struct threeways_link all_joined[] = { { 0, 1, 0 }, { 0, 2, 0 }, { 0, 3, 0 }, { 0, 4, 0 }, { 1, 2, 0 }, { 1, 3, 0 }, { 1, 4, 0 },
+    { 2, 3, 0 }, { 2, 4, 0 }, { 3, 4, 0 } };
+
+/* In that network a switch between the ends that is born is told before a used link and before an unborn end. */
 static void crossed_switch(void)
 {
-    static const uint16_t all[] = { 0, 1, 0, 2, 0, 3, 0, 4, 1, 2, 1, 3, 1, 4, 2, 3, 2, 4, 3, 4 };
     static const uint16_t unborn_end[] = { 3, 0, 4 }, used_link[] = { 0, 2, 3, 1 };
     static const uint16_t listed[] = { 3, 3, 4, 0, 3, 0, 2, 1 };          /* a wrong first ear: all its switches are unborn */
     static struct threeways_session before;
     struct threeways_session *s = &session;
     *s = zeros;
-    hold(is(threeways_load(s, 5, all, 20, 0, 1, 4), 0, 0), "five switches, each two joined, are loaded");
+    hold(is(threeways_load(s, 5, all_joined, 10, 0, 1, 4), 0, 0), "five switches, each two joined, are loaded");
     hold(is(offer(s, listed, 8), 12, 0) && accepted == 0, "no first ear crosses a switch: a wrong one is 12 at 0");
     hold(is(offer(s, listed + 4, 4), 0, 0) && accepted == 1, "the first ear succeeds");
     before = *s;
@@ -184,17 +232,16 @@ static void closed_session(void)
     hold(is(threeways_clear(&other), 0, 0) && same(&other, &zeros), "clear leaves zeros of a closed session");
 }
 
-/* Five switches, each two joined: 1 and 2 have the neighbours 3 and 4 born later, and 4 is last. By the lowest number, the rule before, the
+/* In the same network 1 and 2 have the neighbours 3 and 4 born later, and 4 is last. By the lowest number, the rule before, the
  * walks of 1 and 2 in tree 3 go over 3. */
 static void bring_over(void)
 {
-    static const uint16_t all[] = { 0, 1, 0, 2, 0, 3, 0, 4, 1, 2, 1, 3, 1, 4, 2, 3, 2, 4, 3, 4 };
     static const uint16_t all_list[] = { 3, 0, 2, 1, 3, 2, 3, 1, 3, 2, 4, 3, 0 };
     static struct threeways_session closed, before;
     struct threeways_session *s = &session;
     *s = zeros;
     hold(is(threeways_bring_over(s), 19, 0) && same(s, &zeros), "bringing over an empty session is 19 at 0");
-    hold(is(threeways_load(s, 5, all, 20, 0, 1, 4), 0, 0) && is(offer(s, all_list, 13), 0, 0), "a list of five switches is accepted");
+    hold(is(threeways_load(s, 5, all_joined, 10, 0, 1, 4), 0, 0) && is(offer(s, all_list, 13), 0, 0), "a list of five switches is accepted");
     before = *s;
     hold(is(threeways_bring_over(s), 21, 0) && same(s, &before), "bringing over an open session is 21 at 0");
     hold(is(threeways_close(s), 0, 0), "close succeeds");
@@ -264,10 +311,15 @@ static void zones_refused(void)
         s->order, 1023, 1, 2, 1, zones, ROOM), THREEWAYS_LENGTHS), "an order of another length is 255, at any stage");
 }
 
+/* Card k. Duct 9 has the links that all walks in trees 2 and 3 end with, and the one that the walks of 4 and 5 in tree 1 end with. */
+static const struct threeways_link card_k[] = { { 0, 1, 9 }, { 0, 2, 0 }, { 1, 2, 0 }, { 1, 3, 0 }, { 2, 3, 0 }, { 3, 4, 0 }, { 3, 5, 0 },
+    { 4, 5, 0 }, { 0, 4, 9 }, { 0, 5, 9 } };
+static const uint16_t card_k_list[] = { 3, 0, 2, 1, 3, 2, 3, 1, 3, 3, 4, 0, 3, 3, 5, 4, 0 };
+
+static struct threeways_refusal load_card_k(struct threeways_session *s) { return threeways_load(s, 6, card_k, 10, 0, 1, 5); }
+
 static void zones_given(void)
 {
-    static const uint16_t card_k[] = { 0, 1, 0, 2, 1, 2, 1, 3, 2, 3, 3, 4, 3, 5, 4, 5, 0, 4, 0, 5 };
-    static const uint16_t card_k_list[] = { 3, 0, 2, 1, 3, 2, 3, 1, 3, 3, 4, 0, 3, 3, 5, 4, 0 };
     struct threeways_session *s = &session;
     *s = done;
     hold(is(zone(s, 2, 1, 1, ROOM), 0, 0) && are("12139999"), "sizes 2 1 1 put switch 2 into zone 1, and the rest of the slice is left");
@@ -275,8 +327,7 @@ static void zones_given(void)
     hold(is(zone(s, 1, 1, 2, 4), 0, 0) && are("12339999"), "sizes 1 1 2 put it into zone 3, and n places are room enough");
     hold(same(s, &done), "zones leave the session");
     *s = zeros;
-    hold(is(threeways_load(s, 6, card_k, 20, 0, 1, 5), 0, 0) && is(offer(s, card_k_list, 17), 0, 0) && is(threeways_close(s), 0, 0),
-        "the list of card k closes");
+    hold(is(load_card_k(s), 0, 0) && is(offer(s, card_k_list, 17), 0, 0) && is(threeways_close(s), 0, 0), "the list of card k closes");
     hold(is(zone(s, 4, 1, 1, ROOM), 0, 0) && are("12111399"), "sizes 4 1 1 leave zones 2 and 3 first and last alone");
     hold(is(zone(s, 1, 4, 1, ROOM), 0, 0) && are("12222399"), "sizes 1 4 1 leave zones 1 and 3 root and last alone");
     hold(is(zone(s, 1, 1, 4, ROOM), 0, 0) && are("12333399"), "sizes 1 1 4 leave zones 1 and 2 root and first alone, and cut the first ear");
@@ -289,9 +340,109 @@ static void zones_given(void)
     hold(are("93333999"), "they are 3 for switches that are not in its order, and the rest of the slice is left");
 }
 
+static struct threeways_report report, kept;
+
+static int same_report(void) { return memcmp(&report, &kept, sizeof report) == 0; }
+
+/* Whether the report has so many sessions, these sums for this duct, and 0 for every other. */
+static int has(unsigned sessions, unsigned duct, unsigned two, unsigned three)
+{
+    for (unsigned d = 0; d < THREEWAYS_DUCTS; d++)
+        if (report.two[d] != (d == duct ? two : 0) || report.three[d] != (d == duct ? three : 0))
+            return 0;
+    return report.sessions == sessions;
+}
+
+/* The worked network, closed, with these ducts for its links. */
+static struct threeways_session *with_ducts(const char *digits)
+{
+    session = done;
+    for (size_t i = 0; i < 6; i++)
+        session.ducts[i] = (uint8_t)(digits[i] - '0');
+    return &session;
+}
+
+/* Cards i and k: the walks of 1 are 1 2 0, 1 0 and 1 3 0, those of 2 are 2 0, 2 1 0 and 2 3 0, those of 3 are 3 2 0, 3 1 0 and 3 0. */
+static void report_given(void)
+{
+    memset(&report, 0xa5, sizeof report);
+    hold(is(threeways_report_begin(&report), 0, 0) && has(0, 0, 0, 0), "begin makes any memory the empty report");
+    hold(is(threeways_report_add(&report, with_ducts("000000")), 0, 0) && has(1, 0, 0, 0), "links in no duct cost nothing");
+    hold(is(threeways_report_add(&report, with_ducts("555000")), 0, 0) && has(2, 5, 0, 3), "the three links at the root cost every switch all three walks");
+    hold(same(&session, with_ducts("555000")), "the session is only read");
+    hold(is(threeways_report_add(&report, with_ducts("505000")), 0, 0) && has(3, 5, 3, 3), "two of them cost every switch two");
+    hold(is(threeways_report_add(&report, with_ducts("550000")), 0, 0) && has(4, 5, 6, 3), "and so do two others");
+    hold(is(threeways_report_add(&report, with_ducts("500000")), 0, 0) && has(5, 5, 6, 3), "one of them costs no switch two");
+    hold(is(threeways_report_add(&report, with_ducts("567000")), 0, 0) && has(6, 5, 6, 3), "nor do all three in ducts of their own");
+    hold(is(threeways_report_add(&report, with_ducts("505500")), 0, 0) && has(7, 5, 8, 4), "with the link 1 2 they cost 1 all three, and 2 and 3 two");
+    hold(is(threeways_report_begin(&report), 0, 0) && is(threeways_report_add(&report, &done), 0, 0) && has(1, 7, 1, 0),
+        "the ducts of the load count: 7 costs switch 1 two walks");
+    session = zeros;
+    hold(is(load_card_k(&session), 0, 0) && is(offer(&session, card_k_list, 17), 0, 0) && is(threeways_close(&session), 0, 0),
+        "the list of card k closes");
+    hold(is(threeways_report_begin(&report), 0, 0) && is(threeways_report_add(&report, &session), 0, 0) && has(1, 9, 3, 2),
+        "duct 9 of card k costs 4 and 5 all three walks, and 1, 2 and 3 two");
+    session.tree3[3] = 4;
+    session.ducts[5] = 9;
+    session.ducts[9] = 0;
+    hold(is(threeways_report_add(&report, &session), 0, 0) && has(2, 9, 8, 2),
+        "by the lowest number third walks go over 3 4: the table that the session has counts");
+}
+
+/* A full report: the sums of 65,535 sessions are exact, and the next is refused after the state checks. */
+static void report_full(void)
+{
+    const struct threeways_session *s = with_ducts("505500");
+    threeways_report_begin(&report);
+    for (unsigned i = 0; i < THREEWAYS_MAX_SESSIONS; i++)
+        if (threeways_report_add(&report, s).number != 0)
+            hold(0, "65,535 sessions are added");
+    hold(has(65535, 5, 2 * 65535, 65535), "the sums of 65,535 sessions are exact");
+    kept = report;
+    hold(is(threeways_report_add(&report, s), 25, 0) && same_report(), "a 65,536th session is 25 at 0, and leaves the report");
+    hold(is(threeways_report_add(&report, &zeros), 19, 0) && same_report(), "an empty session is then 19 at 0");
+    hold(is(threeways_report_add(&report, &loaded), 21, 0) && same_report(), "an open session is then 21 at 0");
+    hold(is(threeways_report_begin(&report), 0, 0) && has(0, 0, 0, 0), "begin makes it empty again");
+}
+
+/* Adds the session at a stage, with so many elements of these arrays. */
+static struct threeways_refusal add_with(unsigned stage, size_t two, size_t links_count, size_t ducts_count, size_t tree3)
+{
+    struct threeways_session *s = &session;
+    return threeways_report_add_in(&report.sessions, report.two, two, THREEWAYS_ARRAY(report.three), (uint16_t)stage, s->n, s->m, s->root,
+        s->first, s->last, s->longs, s->born, s->links, links_count, s->ducts, ducts_count, THREEWAYS_ARRAY(s->tree1),
+        THREEWAYS_ARRAY(s->tree2), s->tree3, tree3);
+}
+
+static void report_refused(void)
+{
+    struct threeways_session *s = with_ducts("505500");
+    struct threeways_report *r = &report;
+    memset(r, 0x5a, sizeof *r);
+    kept = *r;
+    hold(is(threeways_report_add(r, &zeros), 19, 0) && same_report(), "adding an empty session is 19 at 0, and leaves the report");
+    hold(is(threeways_report_add(r, &loaded), 21, 0) && same_report(), "adding an open session is 21 at 0, and leaves the report");
+    hold(is(threeways_report_begin_in(&r->sessions, r->two, 255, THREEWAYS_ARRAY(r->three)), THREEWAYS_LENGTHS, 0) && same_report(),
+        "begin with another length of two is 255 at 0");
+    hold(is(threeways_report_begin_in(&r->sessions, THREEWAYS_ARRAY(r->two), r->three, 257), THREEWAYS_LENGTHS, 0) && same_report(),
+        "begin with another length of three is 255 at 0");
+    hold(is(add_with(s->stage, 255, 8192, 4096, 1024), THREEWAYS_LENGTHS, 0) && same_report(), "add with another length of two is 255 at 0");
+    hold(is(add_with(s->stage, 256, 8191, 4096, 1024), THREEWAYS_LENGTHS, 0) && same_report(), "add with another length of links is 255 at 0");
+    hold(is(add_with(s->stage, 256, 8192, 4097, 1024), THREEWAYS_LENGTHS, 0) && same_report(), "add with another length of ducts is 255 at 0");
+    hold(is(add_with(s->stage, 256, 8192, 4096, 1023), THREEWAYS_LENGTHS, 0) && same_report(), "add with another length of tree 3 is 255 at 0");
+    hold(is(add_with(THREEWAYS_EMPTY, 256, 8192, 4096, 1023), THREEWAYS_LENGTHS, 0) && same_report(), "another length is 255 at any stage");
+    threeways_report_begin(r);
+    hold(is(add_with(s->stage, 256, 8192, 4096, 1024), 0, 0) && has(1, 5, 2, 1), "with the right lengths the session is added");
+    memset(s, 0xff, sizeof *s);
+    s->stage = THREEWAYS_CLOSED;
+    other = *s;
+    hold(is(threeways_report_add(r, s), 0, 0) && r->sessions == 2 && same(s, &other), "memory that no calls made is added too, and only read");
+}
+
 int main(void)
 {
     empty_session();
+    ducts();
     open_session();
     whole_list();
     leftover_links();
@@ -300,5 +451,8 @@ int main(void)
     bring_over();
     zones_refused();
     zones_given();
+    report_given();
+    report_full();
+    report_refused();
     return failed;
 }

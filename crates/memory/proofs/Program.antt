@@ -27,9 +27,9 @@ use Rattle.in_place.specs.Session.{emptySession, offeredBy, listedBy}
 use Rattle.in_place.specs.Queries.{parentBy, walkedBy}
 use Rattle.in_place.specs.InPlace.{sessionIn}
 use Rattle.session.specs.Calls.{called}
-use Rattle.session.specs.Program.{keptOrder, sizeIn, sessionProgram}
+use Rattle.session.specs.Program.{keptOrder, sizeIn, ductIn, sessionProgram}
 use Rattle.session.proofs.Refuses.{refuses}
-use Rattle.session.proofs.Demand1.{demand1 as session-demand1}
+use Rattle.session.proofs.Demand1.{ducts-ignored, demand1 as session-demand1}
 use Rattle.session.proofs.Implements.{implements as session-implements}
 use Rattle.zones.proofs.Calls.{zones-through}
 use Rattle.zoning.specs.Zoning.{zonedBy}
@@ -46,7 +46,7 @@ stage-kept Closed = refl
 
 pub keeps : Keeps
 keeps s =
-    ap (λ (x : Stage). sessionIn (record { stage = x; n = s .n; m = s .m; root = s .root; first = s .first; last = s .last; longs = s .longs; born = s .born }) (s .links) (s .used) (s .births) (s .order) (s .tree1) (s .tree2) (s .tree3))
+    ap (λ (x : Stage). sessionIn (record { stage = x; n = s .n; m = s .m; root = s .root; first = s .first; last = s .last; longs = s .longs; born = s .born }) (s .links) (s .ducts) (s .used) (s .births) (s .order) (s .tree1) (s .tree2) (s .tree3))
     (stage-kept (s .stage))
 
 -- a list of ears is taken as its ears one after another
@@ -72,7 +72,7 @@ single s c = (
 -- one call, and a list of calls
 one-call : (c : Call) (s : Session) → (calledIn (memoryOf s) c .after ≡ memoryOf (called s c .after)) × (calledIn (memoryOf s) c .answer ≡ called s c .answer)
 unfolding calledIn called listedBy
-one-call (load net) s = single s (load net)
+one-call (load net ducts) s = single s (load net ducts)
 one-call (ear e) s = single s (ear e)
 one-call (ears l) s =
     offering-alike (offerBy memoryProgram) offeredBy (λ mem s. mem ≡ memoryOf s)
@@ -92,7 +92,7 @@ left : (cs : List Call) → session memoryProgram cs ≡ memoryOf (session sessi
 unfolding stageNumber
 left cs = calls-from cs emptySession
 
-meant : (cs : List Call) → sessionAt (session memoryProgram cs) ≡ session sessionProgram cs
+pub meant : (cs : List Call) → sessionAt (session memoryProgram cs) ≡ session sessionProgram cs
 meant cs = ap sessionAt (left cs) ∙ keeps (session sessionProgram cs)
 
 pub implements : Implements memoryProgram
@@ -104,12 +104,13 @@ implements cs =
       walks = λ v t out. ap (λ (s : Session). walkedBy s v t out) (meant cs) ∙ like .walks v t out;
       orders = ap keptOrder (meant cs) ∙ like .orders;
       sizes = ap sizeIn (meant cs) ∙ like .sizes;
+      ducts = λ i. ap (λ (s : Session). ductIn s i) (meant cs) ∙ like .ducts i;
     }
 
 -- a refused call leaves the memory, and a list is never refused
 leaves : (mem : Memory) (c : Call) → Leaves (sizeIn (sessionAt mem)) c mem (calledIn mem c .answer) (calledIn mem c .after)
 unfolding calledIn
-leaves mem (load net) = single-leaves mem (load net)
+leaves mem (load net ducts) = single-leaves mem (load net ducts)
 leaves mem (ear e) = single-leaves mem (ear e)
 leaves mem (ears l) = inl (offering-given (offerBy memoryProgram) 0 mem (earsIn l))
 leaves mem (close rule) = single-leaves mem (close rule)
@@ -127,7 +128,8 @@ demand1 =
 
 -- so the memory keeps every promise
 pub promises : Promises memoryProgram
-promises = promises-of memoryProgram implements demand1 one-by-one
+unfolding calledIn inMemory settle
+promises = promises-of memoryProgram implements demand1 one-by-one (λ mem. ducts-ignored (sessionAt mem))
 
 -- and so do its zones
 pub zones-in-memory : ZonesInMemory
@@ -136,12 +138,12 @@ zones-in-memory =
     (λ cs. history-of memoryProgram implements cs ∙ sym (history-of sessionProgram session-implements cs)) (λ s. s .n) zonedBy zones-call
 
 -- number 0 is no refusal
-not-zero : {X : Type 0} (nums : List ℕ) → In nums 0 → holds nums 0 ≡ false → X
+pub not-zero : {X : Type 0} (nums : List ℕ) → In nums 0 → holds nums 0 ≡ false → X
 not-zero nums i n = clash (in-holds nums 0 i) n
 
 no-zero : (m place : ℕ) (c : Call) → Refusal m c 0 place → ⊥
 unfolding holds any low
-no-zero m place (load net) = ⊎-elim (λ (i, l). not-zero (1 ∷ 5 ∷ 6 ∷ 20 ∷ []) i refl) (λ (i, l). not-zero (2 ∷ 3 ∷ 4 ∷ []) i refl)
+no-zero m place (load net ducts) = ⊎-elim (λ (i, l). not-zero (1 ∷ 5 ∷ 6 ∷ 20 ∷ []) i refl) (λ (i, l). not-zero (2 ∷ 3 ∷ 4 ∷ []) i refl)
 no-zero m place (ear e) =
     ⊎-elim (λ (i, l). not-zero (7 ∷ 12 ∷ 19 ∷ 22 ∷ []) i refl)
     (⊎-elim (λ (i, l). not-zero (10 ∷ 11 ∷ []) i refl) (λ (i, l). not-zero (8 ∷ 9 ∷ 13 ∷ 14 ∷ 15 ∷ 16 ∷ []) i refl))
@@ -150,7 +152,7 @@ no-zero m place (close rule) = ⊎-elim (λ (i, l). not-zero (19 ∷ 22 ∷ []) 
 no-zero m place bringOver = λ (i, l). not-zero (19 ∷ 21 ∷ []) i refl
 no-zero m place clear = λ x. x
 
-same-number : (num place place′ : ℕ) {a : Answer} → a ≡ refused num place → a ≡ refused 0 place′ → num ≡ 0
+pub same-number : (num place place′ : ℕ) {a : Answer} → a ≡ refused num place → a ≡ refused 0 place′ → num ≡ 0
 unfolding refusalOf
 same-number num place place′ q z = ap (λ (a : Answer). refusalOf a .number) (sym q ∙ z)
 

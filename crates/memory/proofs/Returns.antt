@@ -67,9 +67,9 @@ settle-leaves : (s next : Session) (a : Answer) → Leaves s (settle s next a)
 unfolding settle
 settle-leaves s next a num place q = ap (λ (o : Outcome Session). o .after) (settle-refused s next q)
 
-pub load-leaves : (s : Session) (net : Network) → Leaves s (loadedBy s net)
+pub load-leaves : (s : Session) (net : Network) (ducts : List ℕ) → Leaves s (loadedBy s net ducts)
 unfolding loadedBy
-load-leaves s net = settle-leaves s _ _
+load-leaves s net ducts = settle-leaves s _ _
 
 pub ear-leaves : (s : Session) (e : List ℕ) → Leaves s (offeredBy s e)
 unfolding offeredBy
@@ -85,7 +85,7 @@ bring-leaves s = settle-leaves s _ _
 
 -- the memory with these numbers and the arrays of a session
 abbrev pub memoryWith : Numbers → Session → Memory
-memoryWith k s = memoryBy k (s .links) (s .used) (s .births) (s .order) (s .tree1) (s .tree2) (s .tree3)
+memoryWith k s = memoryBy k (s .links) (s .ducts) (s .used) (s .births) (s .order) (s .tree1) (s .tree2) (s .tree3)
 
 -- what a call that writes the session leaves of the memory, by its outcome o: the session that it left is s
 module _ (mem : Memory) (o : Outcome Session) (s : Session) (out : ℕ) {r : Refusal} where
@@ -229,38 +229,40 @@ module _ (mem : Memory) where
       }
 
 -- the lengths of what is lent to close, to bringing over, to parent and walk, to ear, and to zones, beside those of the arrays that are not
-pub lengths-close : (l u b o p q t : ℕ) → o ≡ 1024 → p ≡ 1024 → q ≡ 1024 → wrongLengths l u b o p q t ≡ wrongLengths l u b 1024 1024 1024 t
-lengths-close l u b o p q t x y z = simp (x, y, z)
+pub lengths-close : (l d u b o p q t : ℕ) → d ≡ 4096 → o ≡ 1024 → p ≡ 1024 → q ≡ 1024 → wrongLengths l d u b o p q t ≡ wrongLengths l 4096 u b 1024 1024 1024 t
+lengths-close l d u b o p q t v x y z = simp (v, x, y, z)
 
-pub lengths-bring : (l u b o p q t : ℕ) → u ≡ 4096 → o ≡ 1024 → p ≡ 1024 → q ≡ 1024 → wrongLengths l u b o p q t ≡ wrongLengths l 4096 b 1024 1024 1024 t
-lengths-bring l u b o p q t w x y z = simp (w, x, y, z)
+pub lengths-bring : (l d u b o p q t : ℕ) → d ≡ 4096 → u ≡ 4096 → o ≡ 1024 → p ≡ 1024 → q ≡ 1024 → wrongLengths l d u b o p q t ≡ wrongLengths l 4096 4096 b 1024 1024 1024 t
+lengths-bring l d u b o p q t v w x y z = simp (v, w, x, y, z)
 
-pub lengths-trees : (l u b o p q t : ℕ) → l ≡ 8192 → u ≡ 4096 → b ≡ 1024 → o ≡ 1024 → wrongLengths l u b o p q t ≡ wrongLengths 8192 4096 1024 1024 p q t
-lengths-trees l u b o p q t x y z w = simp (x, y, z, w)
+pub lengths-trees : (l d u b o p q t : ℕ) → l ≡ 8192 → d ≡ 4096 → u ≡ 4096 → b ≡ 1024 → o ≡ 1024 → wrongLengths l d u b o p q t ≡ wrongLengths 8192 4096 4096 1024 1024 p q t
+lengths-trees l d u b o p q t x v y z w = simp (x, v, y, z, w)
 
-pub lengths-ear : (l u b o p q t : ℕ) → t ≡ 1024 → wrongLengths l u b o p q t ≡ wrongLengths l u b o p q 1024
-lengths-ear l u b o p q t x = simp x
+pub lengths-ear : (l d u b o p q t : ℕ) → d ≡ 4096 → t ≡ 1024 → wrongLengths l d u b o p q t ≡ wrongLengths l 4096 u b o p q 1024
+lengths-ear l d u b o p q t v x = simp (v, x)
 
-pub lengths-zones : (l u b o p q t : ℕ) → l ≡ 8192 → u ≡ 4096 → p ≡ 1024 → q ≡ 1024 → t ≡ 1024 → wrongLengths l u b o p q t ≡ wrongLengths 8192 4096 b o 1024 1024 1024
-lengths-zones l u b o p q t x y z v w = simp (x, y, z, v, w)
+pub lengths-zones : (l d u b o p q t : ℕ) → l ≡ 8192 → d ≡ 4096 → u ≡ 4096 → p ≡ 1024 → q ≡ 1024 → t ≡ 1024
+    → wrongLengths l d u b o p q t ≡ wrongLengths 8192 4096 4096 b o 1024 1024 1024
+lengths-zones l d u b o p q t x v y z r w = simp (x, v, y, z, r, w)
 
 -- lengths that are not wrong are the struct's
-pub right : (l u b o p q t : ℕ) → wrongLengths l u b o p q t ≡ false
-    → (l ≡ 8192) × (u ≡ 4096) × (b ≡ 1024) × (o ≡ 1024) × (p ≡ 1024) × (q ≡ 1024) × (t ≡ 1024)
+pub right : (l d u b o p q t : ℕ) → wrongLengths l d u b o p q t ≡ false
+    → (l ≡ 8192) × (d ≡ 4096) × (u ≡ 4096) × (b ≡ 1024) × (o ≡ 1024) × (p ≡ 1024) × (q ≡ 1024) × (t ≡ 1024)
 unfolding wrongLengths
-right l u b o p q t h =
-    let (l′, h1) = or-false _ _ h in
+right l d u b o p q t h =
+    let (l′, h0) = or-false _ _ h in
+    let (d′, h1) = or-false _ _ h0 in
     let (u′, h2) = or-false _ _ h1 in
     let (b′, h3) = or-false _ _ h2 in
     let (o′, h4) = or-false _ _ h3 in
     let (p′, h5) = or-false _ _ h4 in
     let (q′, t′) = or-false _ _ h5 in
-    (is l _ l′, is u _ u′, is b _ b′, is o _ o′, is p _ p′, is q _ q′, is t _ t′)
+    (is l _ l′, is d _ d′, is u _ u′, is b _ b′, is o _ o′, is p _ p′, is q _ q′, is t _ t′)
   where
     is : (a k : ℕ) → not (eqb a k) ≡ false → a ≡ k
     is a k e = eqb-true a k (not-false _ e)
 
-pub sizes : (l u b o p q t : List ℕ) → wrongLengths (length l) (length u) (length b) (length o) (length p) (length q) (length t) ≡ false → SizedAs l u b o p q t
-sizes l u b o p q t h =
-    let (l′, u′, b′, o′, p′, q′, t′) = right _ _ _ _ _ _ _ h in
-    record { links = l′; used = u′; births = b′; order = o′; tree1 = p′; tree2 = q′; tree3 = t′ }
+pub sizes : (l d u b o p q t : List ℕ) → wrongLengths (length l) (length d) (length u) (length b) (length o) (length p) (length q) (length t) ≡ false → SizedAs l d u b o p q t
+sizes l d u b o p q t h =
+    let (l′, d′, u′, b′, o′, p′, q′, t′) = right _ _ _ _ _ _ _ _ h in
+    record { links = l′; ducts = d′; used = u′; births = b′; order = o′; tree1 = p′; tree2 = q′; tree3 = t′ }

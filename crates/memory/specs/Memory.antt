@@ -34,6 +34,7 @@ numbersBy stage n m root first last longs born = record { stage = stage; n = n; 
 pub record Memory : Type 0 where
   pub numbers : Numbers
   pub links : List ℕ
+  pub ducts : List ℕ
   pub used : List ℕ
   pub births : List ℕ
   pub order : List ℕ
@@ -41,9 +42,9 @@ pub record Memory : Type 0 where
   pub tree2 : List ℕ
   pub tree3 : List ℕ
 
-abbrev pub memoryBy : Numbers → List ℕ → List ℕ → List ℕ → List ℕ → List ℕ → List ℕ → List ℕ → Memory
-memoryBy k links used births order tree1 tree2 tree3 =
-    record { numbers = k; links = links; used = used; births = births; order = order; tree1 = tree1; tree2 = tree2; tree3 = tree3 }
+abbrev pub memoryBy : Numbers → List ℕ → List ℕ → List ℕ → List ℕ → List ℕ → List ℕ → List ℕ → List ℕ → Memory
+memoryBy k links ducts used births order tree1 tree2 tree3 =
+    record { numbers = k; links = links; ducts = ducts; used = used; births = births; order = order; tree1 = tree1; tree2 = tree2; tree3 = tree3 }
 
 -- the stage that a number means: 1 open, 2 closed, any other empty
 unfoldable pub stageOf : ℕ → Stage
@@ -66,23 +67,33 @@ numbersOf st =
 
 -- the session that the memory means, and the memory of a session
 abbrev pub sessionAt : Memory → Session
-sessionAt mem = sessionIn (stateOf (mem .numbers)) (mem .links) (mem .used) (mem .births) (mem .order) (mem .tree1) (mem .tree2) (mem .tree3)
+sessionAt mem = sessionIn (stateOf (mem .numbers)) (mem .links) (mem .ducts) (mem .used) (mem .births) (mem .order) (mem .tree1) (mem .tree2) (mem .tree3)
 
 abbrev pub memoryOf : Session → Memory
 memoryOf s =
-    record { numbers = numbersOf (stateIn s); links = s .links; used = s .used; births = s .births; order = s .order; tree1 = s .tree1; tree2 = s .tree2; tree3 = s .tree3 }
+    record { numbers = numbersOf (stateIn s); links = s .links; ducts = s .ducts; used = s .used; births = s .births; order = s .order; tree1 = s .tree1; tree2 = s .tree2; tree3 = s .tree3 }
 
 -- what a call on the session leaves of the memory: after a refusal all as it was, to the letter
 unfoldable pub inMemory : Memory → Outcome Session → Outcome Memory
 inMemory mem o = settle mem (memoryOf (o .after)) (o .answer)
 
 -- arrays of other lengths than the struct's
-unfoldable pub wrongLengths : ℕ → ℕ → ℕ → ℕ → ℕ → ℕ → ℕ → Bool
-wrongLengths links used births order tree1 tree2 tree3 =
-    not (eqb links 8192) || (not (eqb used 4096) || (not (eqb births 1024) || (not (eqb order 1024) || (not (eqb tree1 1024) || (not (eqb tree2 1024) || not (eqb tree3 1024))))))
+unfoldable pub wrongLengths : ℕ → ℕ → ℕ → ℕ → ℕ → ℕ → ℕ → ℕ → Bool
+wrongLengths links ducts used births order tree1 tree2 tree3 =
+    not (eqb links 8192)
+    || (not (eqb ducts 4096)
+    || (not (eqb used 4096) || (not (eqb births 1024) || (not (eqb order 1024) || (not (eqb tree1 1024) || (not (eqb tree2 1024) || not (eqb tree3 1024)))))))
 
 abbrev pub wrongIn : Memory → Bool
-wrongIn mem = wrongLengths (length (mem .links)) (length (mem .used)) (length (mem .births)) (length (mem .order)) (length (mem .tree1)) (length (mem .tree2)) (length (mem .tree3))
+wrongIn mem =
+    wrongLengths (length (mem .links)) (length (mem .ducts)) (length (mem .used)) (length (mem .births)) (length (mem .order)) (length (mem .tree1)) (length (mem .tree2)) (length (mem .tree3))
+
+-- a row by switch, and one by link
+abbrev pub Row : List ℕ → Type 0
+Row l = length l ≡ 1024
+
+abbrev pub LinkRow : List ℕ → Type 0
+LinkRow l = length l ≡ 4096
 
 -- 255, before all others: the arrays have other lengths than the struct's
 unfoldable pub sized : {A : Type 0} → Bool → A → Outcome A → Outcome A

@@ -11,10 +11,10 @@ use Rattle.in_place.specs.declared.Session.{Session}
 use Rattle.in_place.specs.Session.{zeros}
 use Rattle.in_place.specs.Queries.{parentBy, walkedBy}
 use Rattle.session.specs.Calls.{called}
-use Rattle.session.specs.Program.{keptOrder, sizeIn}
+use Rattle.session.specs.Program.{keptOrder, sizeIn, ductIn}
 use Rattle.zones.specs.Statements.{ZonesCall}
 use Rattle.zoning.specs.Zoning.{zonedBy}
-use Rattle.memory.specs.Memory.{Memory, numbersBy, memoryBy, sessionAt, memoryOf, inMemory}
+use Rattle.memory.specs.Memory.{Memory, numbersBy, memoryBy, sessionAt, memoryOf, inMemory, wrongIn, sized}
 
 -- a call of the session that the memory means
 abbrev pub singleIn : Memory → Call → Outcome Memory
@@ -22,16 +22,20 @@ singleIn mem c = inMemory mem (called (sessionAt mem) c)
 
 -- one call; in a list each ear is a call of its own, and a refused one leaves the memory to the letter
 unfoldable pub calledIn : Memory → Call → Outcome Memory
-calledIn mem (load net) = singleIn mem (load net)
+calledIn mem (load net ducts) = singleIn mem (load net ducts)
 calledIn mem (ear e) = singleIn mem (ear e)
 calledIn mem (ears l) = offering (λ mem e. singleIn mem (ear e)) mem (earsIn l)
 calledIn mem (close rule) = singleIn mem (close rule)
 calledIn mem bringOver = singleIn mem bringOver
 calledIn mem clear = singleIn mem clear
 
+-- what a function for C does that writes the session: 255, or the call
+abbrev pub calledWith : Memory → Call → Outcome Memory
+calledWith mem c = sized (wrongIn mem) mem (calledIn mem c)
+
 -- all zeros
 abbrev pub noMemory : Memory
-noMemory = memoryBy (numbersBy 0 0 0 0 0 0 0 0) (zeros 8192) (zeros 4096) (zeros 1024) (zeros 1024) (zeros 1024) (zeros 1024) (zeros 1024)
+noMemory = memoryBy (numbersBy 0 0 0 0 0 0 0 0) (zeros 8192) (zeros 4096) (zeros 4096) (zeros 1024) (zeros 1024) (zeros 1024) (zeros 1024) (zeros 1024)
 
 abbrev pub memoryProgram : Program
 memoryProgram =
@@ -44,6 +48,7 @@ memoryProgram =
       walk = λ mem v t out. walkedBy (sessionAt mem) v t out;
       order = λ mem. keptOrder (sessionAt mem);
       size = λ mem. sizeIn (sessionAt mem);
+      duct = λ mem. ductIn (sessionAt mem);
     }
 
 -- the memory of a session means that session: nothing of it is lost

@@ -6,7 +6,7 @@ use in_place::State;
 ghost use mathlib.Core.Path.{_≡_};
 ghost use Rattle.memory.specs.Memory.{numbersBy, stageOf, stageNumber, stateOf, numbersOf, wrongLengths};
 
-// The lengths of the struct's arrays: of the link table, of the marks of used links, and of a row by switch.
+// The lengths of the struct's arrays: of the link table, of a row by link (the ducts, and the marks of used links), and of a row by switch.
 pub const LINKS: usize = 2 * (Session::MAX_LINKS as usize);
 
 pub const MARKS: usize = Session::MAX_LINKS as usize;
@@ -110,6 +110,7 @@ pub fn put_state(
 // Arrays of other lengths than the struct's.
 pub fn wrong_lengths(
     links: usize,
+    ducts: usize,
     used: usize,
     births: usize,
     order: usize,
@@ -117,9 +118,12 @@ pub fn wrong_lengths(
     tree2: usize,
     tree3: usize,
 ) -> bool
-    ensures { λ r. ⌜ r ≡ wrongLengths links used births order tree1 tree2 tree3 ⌝ }
+    ensures { λ r. ⌜ r ≡ wrongLengths links ducts used births order tree1 tree2 tree3 ⌝ }
 {
     if links != LINKS {
+        return true;
+    }
+    if ducts != MARKS {
         return true;
     }
     if used != MARKS {
