@@ -1,10 +1,10 @@
 //! Definition 9 of document 000 as document 01 words it, and demand 3, over whole lists and by trying everything; and
-//! of document 02 the cases of Note 3 and the zones of Note 4. It shares no code with the judge and knows nothing of
+//! of document 02 the cases of Note 3, the zones of Note 4 and the lost walks of Note 7. It shares no code with the judge and knows nothing of
 //! refusal numbers.
 
 use std::collections::HashSet;
 
-use crate::network::Site;
+use crate::network::{Link, Site};
 use crate::seen::Crossed;
 
 /// A pair of switches without a direction.
@@ -23,15 +23,15 @@ fn all_different(list: &[u16]) -> bool {
 }
 
 fn joined(site: &Site, a: u16, b: u16) -> bool {
-    site.links.iter().any(|&(x, y)| pair(x, y) == pair(a, b))
+    site.links.iter().any(|link| pair(link.a, link.b) == pair(a, b))
 }
 
 /// Document 01, 'Network and ears', first paragraph: this is a network.
 pub fn is_network(site: &Site) -> bool {
     let n = site.switches;
     let sizes = (4..=1024).contains(&n) && (6..=4096).contains(&site.links.len());
-    let links_join = site.links.iter().all(|&(a, b)| a < n && b < n && a != b);
-    let pairs: Vec<Pair> = site.links.iter().map(|&(a, b)| pair(a, b)).collect();
+    let links_join = site.links.iter().all(|link| link.a < n && link.b < n && link.a != link.b);
+    let pairs: Vec<Pair> = site.links.iter().map(|link| pair(link.a, link.b)).collect();
     let joined_once = (0..pairs.len()).all(|i| (0..i).all(|j| pairs[i] != pairs[j]));
     let named = [site.root, site.first, site.last];
     sizes
@@ -88,7 +88,7 @@ pub fn is_ear_decomposition(site: &Site, list: &[Vec<u16>]) -> bool {
         return false;
     }
     // The ears part the links: every link is used once over the whole list.
-    let used_once = |&(a, b): &Pair| links.iter().filter(|&&link| link == pair(a, b)).count() == 1;
+    let used_once = |one: &Link| links.iter().filter(|&&link| link == pair(one.a, one.b)).count() == 1;
     if !site.links.iter().all(used_once) {
         return false;
     }
@@ -109,8 +109,8 @@ pub fn is_ear_decomposition(site: &Site, list: &[Vec<u16>]) -> bool {
 pub fn leftover(site: &Site, list: &[Vec<u16>]) -> Vec<Vec<u16>> {
     let used: HashSet<Pair> = (0..list.len()).flat_map(|i| links_of(list, i)).collect();
     let born: HashSet<u16> = list.iter().flatten().copied().collect();
-    let left = |&&(a, b): &&Pair| !used.contains(&pair(a, b)) && born.contains(&a) && born.contains(&b);
-    site.links.iter().filter(left).map(|&(a, b)| vec![a, b]).collect()
+    let left = |&&Link { a, b, .. }: &&Link| !used.contains(&pair(a, b)) && born.contains(&a) && born.contains(&b);
+    site.links.iter().filter(left).map(|link| vec![link.a, link.b]).collect()
 }
 
 /// The list with the short ears written out that its empty ears stand for. Before the first ear an empty one stays.
@@ -183,7 +183,7 @@ pub fn any_two_losses_survived(site: &Site, switch: u16, walks: [&[u16]; 3]) -> 
         }
     }
     let inner = (0..site.switches).filter(|&s| s != switch && s != site.root).map(Thing::Switch);
-    let links = site.links.iter().map(|&(a, b)| Thing::Link(pair(a, b)));
+    let links = site.links.iter().map(|link| Thing::Link(pair(link.a, link.b)));
     let things: Vec<Thing> = inner.chain(links).collect();
     for (i, one) in things.iter().enumerate() {
         for other in &things[..=i] {
@@ -244,7 +244,7 @@ pub fn no_two_walks_share(site: &Site, switch: u16, walks: [&[u16]; 3]) -> Resul
 /// no link lies in all three. `tables[t][s]` is the entry of switch s.
 pub fn are_spanning_trees(site: &Site, tables: &[Vec<u16>; 3]) -> Result<(), String> {
     let n = site.switches as usize;
-    let linked: HashSet<Pair> = site.links.iter().map(|&(a, b)| pair(a, b)).collect();
+    let linked: HashSet<Pair> = site.links.iter().map(|link| pair(link.a, link.b)).collect();
     let mut in_trees: std::collections::HashMap<Pair, [bool; 3]> = Default::default();
     for (t, table) in tables.iter().enumerate() {
         if table[site.root as usize] != site.root {
@@ -306,7 +306,7 @@ pub fn are_zones(site: &Site, sizes: [u16; 3], zones: &[u16]) -> Result<(), Stri
 /// For each switch whether it is reached from root, first or last along links that join two switches of one zone.
 fn reached_inside(site: &Site, zones: &[u16]) -> Vec<bool> {
     let mut near = vec![Vec::new(); zones.len()];
-    for &(a, b) in &site.links {
+    for &Link { a, b, .. } in &site.links {
         if zones[a as usize] == zones[b as usize] {
             near[a as usize].push(b);
             near[b as usize].push(a);
@@ -320,4 +320,21 @@ fn reached_inside(site: &Site, zones: &[u16]) -> Vec<bool> {
         }
     }
     reached
+}
+
+/// Document 02, Note 7: how many switches other than the root lose exactly two walks when all links of a duct fail, and
+/// how many lose all three. `walks` has the three of each switch.
+pub fn lost_walks(site: &Site, duct: u8, walks: &[[Vec<u16>; 3]]) -> (u32, u32) {
+    let in_duct = site.links.iter().filter(|link| link.duct == duct);
+    let failed: HashSet<Pair> = in_duct.map(|link| pair(link.a, link.b)).collect();
+    let is_lost = |walk: &&Vec<u16>| walk.windows(2).any(|two| failed.contains(&pair(two[0], two[1])));
+    let (mut two, mut three) = (0, 0);
+    for s in (0..walks.len()).filter(|&s| s != usize::from(site.root)) {
+        match walks[s].iter().filter(is_lost).count() {
+            2 => two += 1,
+            3 => three += 1,
+            _ => {}
+        }
+    }
+    (two, three)
 }

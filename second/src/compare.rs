@@ -125,7 +125,7 @@ pub fn summary(counts: &Counts) -> String {
     format!(
         "equal: {} scripts, {} lines, {} opened, {} ears taken, {} closed, {} cleared, {} unread; \
          empty ears: {}; crossed ears: {}; {} lists judged by Definition 9 ({} accepted); \
-         {} walks, three walks of {} switches and all of {} sites checked; third walks: {}; refusals (number:times/places) {}",
+         {} walks, three walks of {} switches and all of {} sites checked; third walks: {}; ducts: {}; refusals (number:times/places) {}",
         counts.scripts,
         counts.lines,
         counts.opened,
@@ -141,6 +141,7 @@ pub fn summary(counts: &Counts) -> String {
         counts.switches_checked,
         counts.sites_checked,
         counts.third_walks.told(),
+        counts.ducts.told(),
         refusals_told(&counts.refusals)
     )
 }

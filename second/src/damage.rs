@@ -2,7 +2,9 @@
 //! and damaged lines.
 
 use crate::judge::Judge;
-use crate::network::{Site, MIN_LINKS};
+use crate::lines::link_line;
+use crate::network::{Link, Site, MIN_LINKS};
+use crate::plan::any_duct;
 use crate::random::Random;
 
 /// An ear for an open session, damaged in a random way. `ears` is a list that
@@ -164,7 +166,7 @@ fn blind_path(random: &mut Random, judge: &Judge) -> Vec<u16> {
 /// A path from an unborn switch through a born one, most often over links that are left; blind where there is none.
 fn crossing_path(random: &mut Random, judge: &Judge) -> Vec<u16> {
     let network = &judge.network;
-    let both_ways = network.table.iter().flat_map(|&(a, b)| [[a, b], [b, a]]);
+    let both_ways = network.table.iter().flat_map(|link| [[link.a, link.b], [link.b, link.a]]);
     let starts: Vec<[u16; 2]> = both_ways.filter(|two| two.map(|s| judge.is_born(s)) == [false, true]).collect();
     if starts.is_empty() {
         return blind_path(random, judge);
@@ -246,27 +248,30 @@ pub fn damage_site(random: &mut Random, site: &mut Site) {
             let place = random.below(m);
             let number = large(random);
             if random.chance(50) {
-                site.links[place].0 = number;
+                site.links[place].a = number;
             } else {
-                site.links[place].1 = number;
+                site.links[place].b = number;
             }
         }
         2 | 3 => {
             let place = random.below(m);
-            site.links[place].1 = site.links[place].0;
+            site.links[place].b = site.links[place].a;
         }
         4 | 5 => {
-            let (a, b) = *random.pick(&site.links);
-            let repeat = if random.chance(50) { (a, b) } else { (b, a) };
-            site.links.insert(random.below(m + 1), repeat);
+            let link = *random.pick(&site.links);
+            let repeat = if random.chance(50) { link } else { link.turned() };
+            // Another duct does not make another link.
+            let ducts = [link.duct, link.duct ^ 1, any_duct(random), 0];
+            let duct = *random.pick(&ducts);
+            site.links.insert(random.below(m + 1), repeat.in_duct(duct));
         }
         6 => site.last = *random.pick(&[site.root, site.first, n, 65535]),
         7 => site.first = *random.pick(&[site.root, site.last, n, 65535]),
         8 => site.root = *random.pick(&[site.first, site.last, n, 65535]),
         9 => {
             let named = *random.pick(&[site.first, site.last]);
-            let ends = [(site.root, named), (named, site.root)];
-            site.links.retain(|link| !ends.contains(link));
+            let missing = Link::from((site.root, named)).pair();
+            site.links.retain(|link| link.pair() != missing);
         }
         10 => site.switches = *random.pick(&[0, 1, 3, n.saturating_sub(1), n.saturating_add(1), 1024, 1025, 65535]),
         _ => site.links.truncate(random.within(0, MIN_LINKS)),
@@ -281,9 +286,10 @@ pub fn form_line(random: &mut Random) -> Vec<u8> {
         _ => random.below(6),
     };
     let (a, b, c, d) = (number(random), number(random), number(random), number(random));
-    match random.below(9) {
+    match random.below(10) {
         0 => format!("(net {a} (root {b}) (first {c}) (last {d}))").into_bytes(),
         1 => format!("(link {a} {b})").into_bytes(),
+        8 => format!("(link {a} {b} (duct {}))", if random.chance(30) { 0 } else { any_duct(random) }).into_bytes(),
         2 => b"(open)".to_vec(),
         3 => b"(close)".to_vec(),
         4 => b"(clear)".to_vec(),
@@ -386,9 +392,11 @@ pub fn malformed_line(random: &mut Random) -> Vec<u8> {
                 "1_0",
             ];
             let odd = random.pick(odd);
-            match random.below(6) {
+            match random.below(8) {
                 0 => format!("(link {odd} 1)"),
                 1 => format!("(link 1 {odd})"),
+                6 => format!("(link 1 {odd} (duct 7))"),
+                7 => format!("(link 1 2 (duct {odd}))"),
                 2 => format!("(walk 1 {odd})"),
                 3 => format!("(ear 0 {odd} 1)"),
                 4 => format!("(net {odd} (root 0) (first 1) (last 3))"),
@@ -406,5 +414,31 @@ pub fn malformed_line(random: &mut Random) -> Vec<u8> {
             word.as_bytes().to_vec()
         }
         _ => vec![*random.pick(BYTES); random.within(1, 6146)],
+    }
+}
+
+/// The line of a link whose duct makes it unread: one over 255, or one that is not written as the form has it.
+pub fn unread_duct_line(random: &mut Random, link: &Link) -> String {
+    let Link { a, b, .. } = *link;
+    if random.chance(65) {
+        let over = [256, 257, 263, 300, 511, 512, 999, 1000, 1024, 10000, 65535, 65536, 65537, 65543, 4294967296u64];
+        return format!("(link {a} {b} (duct {}))", random.pick(&over));
+    }
+    let line = link_line(&link.in_duct(any_duct(random)));
+    match random.below(14) {
+        0 => format!("(link {a} {b} (duct 0{}))", random.below(300)),
+        1 => line.replace("))", ")"),
+        2 => line.replace("))", ")))"),
+        3 => line.replace("(duct", "duct"),
+        4 => line.replace("(duct ", "(duct"),
+        5 => line.replace(" (duct", "(duct"),
+        6 => line.replace(" (duct", "  (duct"),
+        7 => line.replace("))", ") )"),
+        8 => line.replace("duct", *random.pick(&["Duct", "DUCT", "dukt", "duc", "last", "root", ""])),
+        9 => line.replace("))", ") (duct 1))"),
+        10 => line.replace("))", " 1))"),
+        11 => format!("(link (duct 7) {a} {b})"),
+        12 => format!("(link {a} {b} {})", any_duct(random)),
+        _ => format!("(link {a} {b} (duct {}))", random.pick(&["", "+7", "-1", "x", "7.0", " 7", "7 ", "00", "000"])),
     }
 }

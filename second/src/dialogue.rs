@@ -1,8 +1,8 @@
-//! The whole dialogue of document 01, 'Lines of threeways'.
+//! The whole dialogue of document 01, 'Lines of threeways'. A link is collected with its duct (document 02, Note 7).
 
 use std::io::{self, BufRead, Read, Write};
 
-use crate::lines::{read_form, Form, LINES, LINE_BYTES};
+use crate::lines::{read_form_by, Form, LINES, LINE_BYTES};
 use crate::network::{Site, MAX_LINKS};
 use crate::session::Session;
 use crate::{Plant, Refusal};
@@ -21,7 +21,7 @@ pub fn run(mut input: impl BufRead, output: &mut impl Write, plant: Plant) -> io
         if line.last() == Some(&b'\n') {
             line.pop();
         }
-        match read_form(&line) {
+        match read_form_by(&line, plant) {
             Some(form) if !dialogue.is_link_too_many(&form) => dialogue.answer(form, output)?,
             _ => {
                 writeln!(output, "(unread {number})")?;
@@ -58,8 +58,8 @@ impl Dialogue {
                 self.collected = Site { switches, root, first, last, links };
                 Ok(())
             }
-            Form::Link(a, b) => {
-                self.collected.links.push((a, b));
+            Form::Link(link) => {
+                self.collected.links.push(link);
                 Ok(())
             }
             Form::Open => match self.session.load(&self.collected, self.plant) {

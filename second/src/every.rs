@@ -4,30 +4,31 @@
 //! every ear before it were accepted. And every list of long ears that closes.
 
 use crate::judge::Judge;
-use crate::lines::ear_line;
-use crate::network::{Network, Site};
+use crate::lines::{ear_line, link_line};
+use crate::network::{in_no_duct, Network, Site};
 use crate::Plant;
 
 /// The four-switch network of document 01.
 pub fn worked_site() -> Site {
-    Site { switches: 4, root: 0, first: 1, last: 3, links: vec![(0, 1), (0, 2), (0, 3), (1, 2), (1, 3), (2, 3)] }
+    let links = in_no_duct(&[(0, 1), (0, 2), (0, 3), (1, 2), (1, 3), (2, 3)]);
+    Site { switches: 4, root: 0, first: 1, last: 3, links }
 }
 
 /// The wheel of card j: hub 0 and rim 1-2-3-4; root 0, first 1, last 2.
 pub fn wheel_site() -> Site {
-    let links = vec![(0, 1), (0, 2), (0, 3), (0, 4), (1, 2), (2, 3), (3, 4), (4, 1)];
+    let links = in_no_duct(&[(0, 1), (0, 2), (0, 3), (0, 4), (1, 2), (2, 3), (3, 4), (4, 1)]);
     Site { switches: 5, root: 0, first: 1, last: 2, links }
 }
 
 /// The network of card k.
 pub fn card_k_site() -> Site {
-    let links = vec![(0, 1), (0, 2), (1, 2), (1, 3), (2, 3), (3, 4), (3, 5), (4, 5), (0, 4), (0, 5)];
+    let links = in_no_duct(&[(0, 1), (0, 2), (1, 2), (1, 3), (2, 3), (3, 4), (3, 5), (4, 5), (0, 4), (0, 5)]);
     Site { switches: 6, root: 0, first: 1, last: 5, links }
 }
 
 /// So many switches, each two joined; root 0, first 1, and the highest is last.
 pub fn all_joined(switches: u16) -> Site {
-    let links = (0..switches).flat_map(|a| (a + 1..switches).map(move |b| (a, b))).collect();
+    let links = (0..switches).flat_map(|a| (a + 1..switches).map(move |b| (a, b).into())).collect();
     Site { switches, root: 0, first: 1, last: switches - 1, links }
 }
 
@@ -36,7 +37,7 @@ pub fn named(site: &Site) -> Vec<Site> {
     let all = || 0..site.switches;
     let triples = all().flat_map(|root| all().flat_map(move |first| all().map(move |last| (root, first, last))));
     let sites = triples.map(|(root, first, last)| Site { root, first, last, ..site.clone() });
-    sites.filter(|site| Network::load(site).is_ok()).collect()
+    sites.filter(|site| Network::load(site, Plant::Nothing).is_ok()).collect()
 }
 
 /// Every network of so many switches with root 0, first 1 and the highest as last.
@@ -44,23 +45,23 @@ pub fn every_network(switches: u16) -> Vec<Site> {
     let all = all_joined(switches);
     let some = |set: u32| (0..all.links.len()).filter(|at| set >> at & 1 == 1).map(|at| all.links[at]).collect();
     let sites = (0..1 << all.links.len()).map(|set| Site { links: some(set), ..all.clone() });
-    sites.filter(|site| Network::load(site).is_ok()).collect()
+    sites.filter(|site| Network::load(site, Plant::Nothing).is_ok()).collect()
 }
 
 /// Two triangles, 0 1 2 and 3 4 5, and three links between them.
 pub fn prism() -> Site {
-    let links = vec![(0, 1), (1, 2), (2, 0), (3, 4), (4, 5), (5, 3), (0, 3), (1, 4), (2, 5)];
+    let links = in_no_duct(&[(0, 1), (1, 2), (2, 0), (3, 4), (4, 5), (5, 3), (0, 3), (1, 4), (2, 5)]);
     Site { switches: 6, root: 0, first: 1, last: 3, links }
 }
 
 /// The judge of a site that is a network.
 pub fn judge_of(site: &Site) -> Judge {
-    Judge::new(Network::load(site).expect("the site is a network"), Plant::Nothing)
+    Judge::new(Network::load(site, Plant::Nothing).expect("the site is a network"), Plant::Nothing)
 }
 
 /// Every path of two or more switches, written from both ends.
 pub fn paths(site: &Site) -> Vec<Vec<u16>> {
-    let network = Network::load(site).expect("the site is a network");
+    let network = Network::load(site, Plant::Nothing).expect("the site is a network");
     let mut paths: Vec<Vec<u16>> = (0..site.switches).map(|s| vec![s]).collect();
     let mut at = 0;
     while at < paths.len() {
@@ -103,7 +104,8 @@ fn longer_lists(judge: Judge, list: &mut Vec<Vec<u16>>, paths: Vec<&Vec<u16>>, e
 /// later ears from both too, or from the lower end only.
 pub fn every_list(site: &Site, both_ends: bool, each: &mut dyn FnMut(&[Vec<u16>])) {
     let closing = [(site.root, site.first), (site.first, site.root)];
-    let links: Vec<(u16, u16)> = site.links.iter().copied().filter(|link| !closing.contains(link)).collect();
+    let pairs = site.links.iter().map(|link| (link.a, link.b));
+    let links: Vec<(u16, u16)> = pairs.filter(|two| !closing.contains(two)).collect();
     let mut search = Search { site, both_ends, used: vec![false; links.len()], links, list: Vec::new(), each };
     search.next_ear();
 }
@@ -170,8 +172,8 @@ impl Search<'_> {
 pub fn lines_for(site: &Site, list: &[Vec<u16>]) -> String {
     let Site { switches, root, first, last, links } = site;
     let mut lines = format!("(net {switches} (root {root}) (first {first}) (last {last}))\n");
-    for (a, b) in links {
-        lines += &format!("(link {a} {b})\n");
+    for link in links {
+        lines += &(link_line(link) + "\n");
     }
     lines += "(open)\n";
     for ear in list {

@@ -7,7 +7,7 @@ use crate::brute;
 use crate::later::Later;
 use crate::lines::{read_form, Form, LINES, LINE_BYTES};
 use crate::network::{Site, MAX_LINKS};
-use crate::seen::{CrossedEars, EmptyEars, Seen, ThirdWalks};
+use crate::seen::{CrossedEars, Ducts, EmptyEars, Seen, ThirdWalks};
 
 /// Networks of up to this many switches are judged by brute force.
 pub const SMALL: u16 = 10;
@@ -24,6 +24,7 @@ pub struct Counts {
     pub closed: usize,
     pub cleared: usize,
     pub unread: usize,
+    pub ducts: Ducts,
     pub walks: usize,
     pub third_walks: ThirdWalks,
     /// Lists judged by Definition 9 at a `(close)`, and how many of them it accepts.
@@ -37,9 +38,10 @@ pub struct Counts {
 }
 
 impl Counts {
-    /// The ears and walks that were never seen.
+    /// The ears, walks and ducts that were never seen.
     pub fn missing(&self) -> Vec<String> {
-        [self.empty_ears.missing(), self.crossed_ears.missing(), self.third_walks.missing()].concat()
+        let ears = [self.empty_ears.missing(), self.crossed_ears.missing()].concat();
+        [ears, self.third_walks.missing(), self.ducts.missing()].concat()
     }
 }
 
@@ -75,8 +77,9 @@ pub fn follow(script: &[u8], output: &[u8], counts: &mut Counts) -> Result<(), S
                 collected = Site { switches, root, first, last, links: collected.links };
                 continue;
             }
-            Some(Form::Link(a, b)) if collected.links.len() < MAX_LINKS => {
-                collected.links.push((a, b));
+            Some(Form::Link(link)) if collected.links.len() < MAX_LINKS => {
+                counts.ducts.add_link(line, &link);
+                collected.links.push(link);
                 continue;
             }
             _ => {}
@@ -89,6 +92,9 @@ pub fn follow(script: &[u8], output: &[u8], counts: &mut Counts) -> Result<(), S
         let checked = match form {
             None | Some(Form::Link(..)) | Some(Form::Net { .. }) => {
                 counts.unread += 1;
+                if form.is_none() {
+                    counts.ducts.add_unread(line);
+                }
                 if answer != Answer::Unread(at as u16 + 1) {
                     return Err(format!("line {} is no form and is not answered so", at + 1));
                 }
@@ -148,6 +154,10 @@ fn check_open(
         }
         Answer::Refused(1..=6, _) if small && brute::is_network(collected) => {
             Err("refused, and it is a network".into())
+        }
+        Answer::Refused(4, place) => {
+            counts.ducts.add_repeat(&collected.links, place.into());
+            Ok(())
         }
         answer => expect(matches!(answer, Answer::Refused(1..=6, _))),
     }

@@ -3,7 +3,7 @@
 
 use std::ops::Range;
 
-use crate::network::Network;
+use crate::network::{Link, Network};
 use crate::seen::Crossed;
 use crate::{refuse, Plant, Refusal};
 
@@ -222,7 +222,7 @@ impl Judge {
 
     /// An empty ear takes every unused link whose two switches are born, as short ears in table order.
     fn take_leftover_links(&mut self) {
-        for (link, &(a, b)) in self.network.table.iter().enumerate() {
+        for (link, &Link { a, b, .. }) in self.network.table.iter().enumerate() {
             let born = match self.plant {
                 Plant::WrongLinks => self.is_born(a) || self.is_born(b),
                 _ => self.is_born(a) && self.is_born(b),

@@ -2,7 +2,7 @@
 //! shortest way along such neighbours to last, found in levels from last, and the walk by the lowest number, as before
 //! the note. It shares no code with the tables.
 
-use crate::network::Site;
+use crate::network::{Link, Site};
 
 /// For each switch its neighbours born in a later ear, lowest number first.
 pub struct Later {
@@ -22,7 +22,7 @@ impl Later {
         }
         let birth: Vec<usize> = birth.into_iter().collect::<Option<_>>()?;
         let mut later = vec![Vec::new(); birth.len()];
-        for (a, b) in site.links.iter().flat_map(|&(a, b)| [(a, b), (b, a)]) {
+        for Link { a, b, .. } in site.links.iter().flat_map(|link| [*link, link.turned()]) {
             if birth[a as usize] < birth[b as usize] {
                 later[a as usize].push(b);
             }

@@ -3,10 +3,11 @@
 //! The judge and the dialogue:
 //! `lines` reads a line, `dialogue` answers a whole input, `session` is the
 //! machine of three stages, `network` has the checks of loading, `judge` the
-//! checks of ears, `order`, `tables`, `thirds` and `zones` what a closed list gives.
+//! checks of ears, `order`, `tables`, `thirds` and `zones` what a closed list gives, `ducts` the report over closed
+//! sessions.
 //!
 //! What checks them:
-//! `brute` has Definition 9, demand 3 and zones over whole lists, `later` third walks by search, `follow` holds an
+//! `brute` has Definition 9, demand 3, zones and lost walks over whole lists, `later` third walks by search, `follow` holds an
 //! output against them, `seen` counts what has to be seen, `random`, `plan`, `damage` and `script` make inputs,
 //! `compare` and `shrink` find a difference and make it small.
 //!
@@ -21,6 +22,7 @@ pub mod calls;
 pub mod compare;
 pub mod damage;
 pub mod dialogue;
+pub mod ducts;
 pub mod every;
 pub mod follow;
 pub mod judge;
@@ -76,6 +78,17 @@ pub enum Plant {
     WrongRule,
     /// Tree 3 has the highest number among the neighbours with the shortest third walk.
     WrongTie,
+    /// The duct of a line is cut to 8 bits: 256 is read as 0.
+    WrongDuct,
+    /// A link that repeats an earlier one with another duct is taken for another link.
+    WrongRepeat,
+    /// A report counts links in no duct as those of duct 0. No line asks for a report: this and the next two show in
+    /// calls alone.
+    WrongNone,
+    /// A report counts the switches that lose all three walks among those that lose two.
+    WrongTwo,
+    /// A full report is told before the state of the session.
+    WrongTurn,
 }
 
 impl Plant {
@@ -91,6 +104,11 @@ impl Plant {
             7 => Some(Plant::WrongRoom),
             8 => Some(Plant::WrongRule),
             9 => Some(Plant::WrongTie),
+            10 => Some(Plant::WrongDuct),
+            11 => Some(Plant::WrongRepeat),
+            12 => Some(Plant::WrongNone),
+            13 => Some(Plant::WrongTwo),
+            14 => Some(Plant::WrongTurn),
             _ => None,
         }
     }

@@ -1,5 +1,8 @@
-//! Reading one line (document 01, 'Lines of threeways'): a line is a form
+//! Reading one line (document 01, 'Lines of threeways'; document 02, Note 7, for the duct of a link): a line is a form
 //! only in its exact writing.
+
+use crate::network::Link;
+use crate::Plant;
 
 /// At most this many bytes stand before the line feed.
 pub const LINE_BYTES: usize = 6144;
@@ -9,7 +12,7 @@ pub const LINES: usize = 65_535;
 #[derive(Clone, Debug, PartialEq, Eq)]
 pub enum Form {
     Net { switches: u16, root: u16, first: u16, last: u16 },
-    Link(u16, u16),
+    Link(Link),
     Open,
     Ear(Vec<u16>),
     Close,
@@ -19,6 +22,11 @@ pub enum Form {
 
 /// The form that a line, without its line feed, is; or none.
 pub fn read_form(line: &[u8]) -> Option<Form> {
+    read_form_by(line, Plant::Nothing)
+}
+
+/// The same by a program that has a fault or none.
+pub fn read_form_by(line: &[u8], plant: Plant) -> Option<Form> {
     if line.len() > LINE_BYTES {
         return None;
     }
@@ -37,7 +45,7 @@ pub fn read_form(line: &[u8]) -> Option<Form> {
         Form::Net { switches, root, first, last }
     } else if rest.eat(b"(link ") {
         let (a, b) = rest.two_numbers()?;
-        Form::Link(a, b)
+        Form::Link(Link { a, b, duct: rest.duct(plant)? })
     } else if rest.eat(b"(walk ") {
         let (switch, tree) = rest.two_numbers()?;
         Form::Walk { switch, tree }
@@ -57,6 +65,15 @@ pub fn read_form(line: &[u8]) -> Option<Form> {
 pub fn ear_line(ear: &[u16]) -> String {
     let numbers: String = ear.iter().map(|s| format!(" {s}")).collect();
     format!("(ear{numbers})")
+}
+
+/// The line of a link; one in no duct has no inner bracket.
+pub fn link_line(link: &Link) -> String {
+    let Link { a, b, duct } = link;
+    match duct {
+        0 => format!("(link {a} {b})"),
+        _ => format!("(link {a} {b} (duct {duct}))"),
+    }
 }
 
 /// What of the line is still to be read.
@@ -101,6 +118,18 @@ impl Rest<'_> {
         let number = self.number()?;
         self.eat(b")").then_some(number)
     }
+
+    /// The duct of a link, up to 255; without the inner bracket it is 0.
+    fn duct(&mut self, plant: Plant) -> Option<u8> {
+        if !self.0.starts_with(b" ") {
+            return Some(0);
+        }
+        let duct = self.named(b" (duct ")?;
+        match plant {
+            Plant::WrongDuct => Some(duct as u8),
+            _ => u8::try_from(duct).ok(),
+        }
+    }
 }
 
 #[cfg(test)]
@@ -111,7 +140,10 @@ mod tests {
     fn exact_writing_only() {
         assert_eq!(read_form(b"(ear)"), Some(Form::Ear(vec![])));
         assert_eq!(read_form(b"(ear 0 65535)"), Some(Form::Ear(vec![0, 65535])));
-        assert_eq!(read_form(b"(link 1 2)"), Some(Form::Link(1, 2)));
+        assert_eq!(read_form(b"(link 1 2)"), Some(Form::Link((1, 2).into())));
+        for (line, duct) in [("(link 1 2 (duct 0))", 0), ("(link 1 2 (duct 7))", 7), ("(link 1 2 (duct 255))", 255)] {
+            assert_eq!(read_form(line.as_bytes()), Some(Form::Link(Link { a: 1, b: 2, duct })));
+        }
         assert_eq!(
             read_form(b"(net 65535 (root 0) (first 1) (last 3))"),
             Some(Form::Net { switches: 65535, root: 0, first: 1, last: 3 })
@@ -136,6 +168,32 @@ mod tests {
             "(ear 1)\r",
             "(link 1)",
             "(link 1 2 3)",
+            "(link 1 2 )",
+            "(link 1 2 (duct 256))",
+            "(link 1 2 (duct 257))",
+            "(link 1 2 (duct 65535))",
+            "(link 1 2 (duct 65536))",
+            "(link 1 2 (duct 65543))",
+            "(link 1 2 (duct 07))",
+            "(link 1 2 (duct 00))",
+            "(link 1 2 (duct -1))",
+            "(link 1 2 (duct ))",
+            "(link 1 2 (duct))",
+            "(link 1 2 ())",
+            "(link 1 2 (duct 7)",
+            "(link 1 2 (duct 7)))",
+            "(link 1 2 (duct 7) )",
+            "(link 1 2(duct 7))",
+            "(link 1 2  (duct 7))",
+            "(link 1 2 (duct  7))",
+            "(link 1 2 (duct 7 8))",
+            "(link 1 2 (duct 7) (duct 7))",
+            "(link (duct 7) 1 2)",
+            "(link 1 2 7)",
+            "(link 1 2 duct 7)",
+            "(link 1 2 (Duct 7))",
+            "(duct 7)",
+            "(walk 1 2 (duct 7))",
             "(walk 1)",
             "(open )",
             "(open 1)",

@@ -1,8 +1,8 @@
-//! Networks made together with a Mondschein sequence, of any size.
+//! Networks made together with a Mondschein sequence, of any size, and ducts for their links.
 
-use std::collections::HashSet;
+use std::collections::{HashMap, HashSet};
 
-use crate::network::{Site, MAX_LINKS};
+use crate::network::{in_no_duct, Link, Site, MAX_LINKS};
 use crate::random::Random;
 
 /// A site and a list of ears that closes it.
@@ -30,6 +30,7 @@ pub struct Shape {
     /// Three links at every switch; needs an even number of switches.
     pub cubic: bool,
     pub short_ears: ShortEars,
+    pub ducts: Ducts,
     /// Numbers of switches and places of links as they come, not shuffled.
     pub tidy: bool,
 }
@@ -44,6 +45,23 @@ pub enum ShortEars {
     Left,
     /// Left to empty ears anywhere, or offered before one of them takes them.
     LeftAnywhere,
+}
+
+/// Which links lie in ducts (document 02, Note 7).
+#[derive(Clone, Copy, Debug, PartialEq, Eq)]
+pub enum Ducts {
+    None,
+    /// A few ducts, and none for some links.
+    Few,
+    /// One duct for most of the links.
+    One,
+    /// A duct for the links of each ear.
+    ByEar,
+    /// One duct for three links at the root: those to first and to last, and the first one of the first ear. Of a
+    /// switch whose walk in tree 1 ends with that one, it costs all three walks. Or for two of the three.
+    AtRoot,
+    /// Any duct for each link.
+    Any,
 }
 
 impl Shape {
@@ -85,6 +103,16 @@ impl Shape {
                 ShortEars::Left,
                 ShortEars::LeftAnywhere,
             ]),
+            ducts: *random.pick(&[
+                Ducts::None,
+                Ducts::None,
+                Ducts::Few,
+                Ducts::One,
+                Ducts::ByEar,
+                Ducts::AtRoot,
+                Ducts::AtRoot,
+                Ducts::Any,
+            ]),
             tidy: random.chance(15),
         }
     }
@@ -109,6 +137,7 @@ impl Plan {
         let long_ears = std::mem::take(&mut sketch.long_ears);
         let list = list_of(long_ears, &sketch.short_ears(), &sketch.birth, shape, random);
         let mut plan = number_afresh(list, shape, random);
+        lay(&mut plan, shape.ducts, random);
         match shape.short_ears {
             ShortEars::Left => leave_short_ears(&mut plan.ears),
             ShortEars::LeftAnywhere => leave_some_links(&mut plan.ears, random),
@@ -121,10 +150,11 @@ impl Plan {
     pub fn of_list(ears: Vec<Vec<u16>>, switches: usize, last: u16) -> Plan {
         let cycle = &ears[0];
         let (root, first) = (cycle[0], cycle[cycle.len() - 1]);
-        let mut links = vec![(root, first)];
+        let mut pairs = vec![(root, first)];
         for ear in &ears {
-            links.extend(ear.windows(2).map(|two| (two[0], two[1])));
+            pairs.extend(ear.windows(2).map(|two| (two[0], two[1])));
         }
+        let links = in_no_duct(&pairs);
         Plan { site: Site { switches: switches as u16, root, first, last, links }, ears }
     }
 }
@@ -335,12 +365,53 @@ fn number_afresh(mut list: Vec<Vec<u16>>, shape: &Shape, random: &mut Random) ->
 }
 
 /// Puts links into any order, and half of them the other way round.
-pub fn mix(links: &mut [(u16, u16)], random: &mut Random) {
+pub fn mix(links: &mut [Link], random: &mut Random) {
     random.shuffle(links);
     for link in links {
         if random.chance(50) {
-            *link = (link.1, link.0);
+            *link = link.turned();
         }
+    }
+}
+
+/// A duct that is not 0, most often one of the lowest and the highest.
+pub fn any_duct(random: &mut Random) -> u8 {
+    match random.below(4) {
+        0 => 255,
+        1 => 1,
+        _ => random.within(1, 255) as u8,
+    }
+}
+
+/// Lays the links of a plan in ducts. Its list has the links of every ear, its short ones too.
+fn lay(plan: &mut Plan, ducts: Ducts, random: &mut Random) {
+    let numbers = [0, any_duct(random), any_duct(random), any_duct(random)];
+    let one = numbers[1];
+    let Plan { site, ears } = plan;
+    let mut of_ear = HashMap::new();
+    for ear in ears.iter().rev() {
+        let duct = random.below(256) as u8;
+        of_ear.extend(ear.windows(2).map(|two| (Link::from((two[0], two[1])).pair(), duct)));
+    }
+    let mut at_root = [site.first, site.last, ears[0][1]].to_vec();
+    if random.chance(30) {
+        at_root.remove(random.below(3));
+    }
+    let is_at_root = |link: &Link| {
+        let other = if link.a == site.root { link.b } else { link.a };
+        [link.a, link.b].contains(&site.root) && at_root.contains(&other)
+    };
+    for link in &mut site.links {
+        link.duct = match ducts {
+            Ducts::None => 0,
+            Ducts::Few => *random.pick(&numbers),
+            Ducts::One if random.chance(80) => one,
+            Ducts::One => 0,
+            Ducts::ByEar => of_ear.get(&link.pair()).copied().unwrap_or(0),
+            Ducts::AtRoot if is_at_root(link) => one,
+            Ducts::AtRoot => numbers[*random.pick(&[0, 0, 0, 2, 3])],
+            Ducts::Any => random.below(256) as u8,
+        };
     }
 }
 

@@ -2,10 +2,11 @@
 
 use crate::damage::{
     damage_site, damaged_ear, form_line, last_by_root, long_ear_line, malformed_line, tried_ear, tried_in_vain,
+    unread_duct_line,
 };
-use crate::lines::{ear_line, LINES};
-use crate::network::{Site, MAX_LINKS};
-use crate::plan::{Plan, Shape, ShortEars};
+use crate::lines::{ear_line, link_line, LINES};
+use crate::network::{Link, Site, MAX_LINKS};
+use crate::plan::{any_duct, Ducts, Plan, Shape, ShortEars};
 use crate::random::Random;
 use crate::session::Session;
 use crate::Plant;
@@ -14,18 +15,19 @@ use crate::Plant;
 pub fn script(seed: u64, index: u64) -> Vec<u8> {
     let mut random = Random::new(seed, index);
     let random = &mut random;
-    let mut out = Script::default();
+    let mut out = Script { zeros: random.chance(20), ..Script::default() };
     match random.below(1000) {
-        0..270 => several(random, &mut out, 3, |random, out| {
+        0..230 => several(random, &mut out, 3, |random, out| {
             let switches = random.within(4, 8);
             planned(random, out, switches, 35);
         }),
-        270..300 => several(random, &mut out, 3, wandering),
-        300..450 => several(random, &mut out, 3, tried_list),
-        450..550 => several(random, &mut out, 3, mixed_list),
-        550..650 => several(random, &mut out, 6, damaged_site),
-        650..710 => several(random, &mut out, 2, any_calls),
-        710..830 => unread(random, &mut out),
+        230..260 => several(random, &mut out, 3, wandering),
+        260..410 => several(random, &mut out, 3, tried_list),
+        410..510 => several(random, &mut out, 3, mixed_list),
+        510..610 => several(random, &mut out, 6, damaged_site),
+        610..670 => several(random, &mut out, 2, any_calls),
+        670..770 => unread(random, &mut out),
+        770..830 => unread_duct(random, &mut out),
         830..930 => several(random, &mut out, 2, |random, out| {
             let switches = random.within(9, 100);
             planned(random, out, switches, 15);
@@ -50,6 +52,8 @@ struct Script {
     bytes: Vec<u8>,
     lines: usize,
     session: Session,
+    /// Whether links in no duct are written with duct 0.
+    zeros: bool,
 }
 
 impl Script {
@@ -68,9 +72,12 @@ impl Script {
         self.text(&format!("(net {switches} (root {root}) (first {first}) (last {last}))"));
     }
 
-    fn links(&mut self, links: &[(u16, u16)]) {
-        for (a, b) in links {
-            self.text(&format!("(link {a} {b})"));
+    fn links(&mut self, links: &[Link]) {
+        for link in links {
+            match link {
+                Link { a, b, duct: 0 } if self.zeros => self.text(&format!("(link {a} {b} (duct 0))")),
+                link => self.text(&link_line(link)),
+            }
         }
     }
 
@@ -207,7 +214,10 @@ fn noisy_call(random: &mut Random, out: &mut Script, plan: &Plan, at: usize) {
         0 | 1 => out.close(),
         2 => out.open(&plan.site),
         3 => out.walk(random.below(n + 2), random.below(5)),
-        4 => out.links(&[(random.below(n) as u16, random.below(n) as u16)]),
+        4 => {
+            let link = Link { a: random.below(n) as u16, b: random.below(n) as u16, duct: random.below(256) as u8 };
+            out.links(&[link]);
+        }
         5 => {
             let other = Plan::random(random, 4);
             out.net(&other.site);
@@ -361,8 +371,8 @@ fn mixed_list(random: &mut Random, out: &mut Script) {
             6 => std::mem::swap(&mut plan.site.first, &mut plan.site.last),
             _ => {
                 let link = *random.pick(&plan.site.links);
-                if link.0 == plan.site.root {
-                    plan.site.last = link.1;
+                if link.a == plan.site.root {
+                    plan.site.last = link.b;
                 }
             }
         }
@@ -471,11 +481,29 @@ fn unread(random: &mut Random, out: &mut Script) {
     }
 }
 
+/// Good lines, then a link whose duct makes the line unread, most often among the links of a plan, and more lines.
+fn unread_duct(random: &mut Random, out: &mut Script) {
+    let switches = random.within(4, 8);
+    let plan = Plan::random(random, switches);
+    let at = random.below(plan.site.links.len());
+    out.net(&plan.site);
+    out.links(&plan.site.links[..at]);
+    if random.chance(20) {
+        out.links(&plan.site.links[at..]);
+        out.open(&plan.site);
+        out.ear(&plan.ears[0]);
+    }
+    let line = unread_duct_line(random, &plan.site.links[at]);
+    out.text(&line);
+    out.links(&plan.site.links[at..]);
+    out.open(&plan.site);
+}
+
 /// As many links as are collected, and one more or not.
 fn too_many_links(random: &mut Random, out: &mut Script) {
     if random.chance(30) {
         // A clear resets the count.
-        let some = vec![(1, 2); random.within(1, 4096)];
+        let some = vec![Link { a: 1, b: 2, duct: any_duct(random) }; random.within(1, 4096)];
         out.links(&some);
         out.clear();
     }
@@ -495,7 +523,7 @@ fn too_many_links(random: &mut Random, out: &mut Script) {
     out.open(&plan.site);
     out.ear(&plan.ears[0]);
     if random.chance(70) {
-        let line = if random.chance(50) { "(link 0 1)" } else { "(link 65536 1)" };
+        let line = *random.pick(&["(link 0 1)", "(link 0 1 (duct 7))", "(link 65536 1)", "(link 0 1 (duct 256))"]);
         out.text(line);
     }
     for ear in &plan.ears[1..] {
@@ -515,6 +543,7 @@ fn too_many_lines(random: &mut Random, out: &mut Script) {
         hubs: 0,
         cubic: false,
         short_ears: ShortEars::AtTheEnd,
+        ducts: Ducts::Few,
         tidy: false,
     };
     let plan = Plan::of(&shape, random);

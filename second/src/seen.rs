@@ -1,10 +1,14 @@
 //! What the comparisons have to see, by kind: empty ears (document 02, Note 2) by their answer, crossed ears, whose
 //! answer document 02, Note 3, changed, by what else is wrong with them, zones (Note 4) by their answer, and of Note 6 third
-//! walks beside those before the note, and bringing over by its answer.
+//! walks beside those before the note, and bringing over by its answer; of Note 7 the ducts of lines by their writing,
+//! and sessions added to a report by what its ducts cost.
 
 use std::collections::BTreeMap;
 
-/// Ears, zones or walks counted by kind.
+use crate::lines::{read_form, Form};
+use crate::network::Link;
+
+/// Ears, ducts, zones or walks counted by kind.
 pub trait Seen {
     /// What is counted.
     const WHAT: &'static str;
@@ -120,6 +124,71 @@ impl Seen for ThirdWalks {
     }
 }
 
+/// The ducts of link lines by their writing, and repeated links that are in another duct.
+#[derive(Clone, Debug, Default)]
+pub struct Ducts {
+    none: usize,
+    some: usize,
+    zero: usize,
+    over: usize,
+    ill_written: usize,
+    repeated: usize,
+}
+
+impl Ducts {
+    /// Counts a line that is collected as this link.
+    pub fn add_link(&mut self, line: &[u8], link: &Link) {
+        *match link.duct {
+            0 if !names_duct(line) => &mut self.none,
+            0 => &mut self.zero,
+            _ => &mut self.some,
+        } += 1;
+    }
+
+    /// Counts a line that is no form, where it is a link with a duct over 255, or names a duct otherwise.
+    pub fn add_unread(&mut self, line: &[u8]) {
+        if is_over(line) {
+            self.over += 1;
+        } else if names_duct(line) {
+            self.ill_written += 1;
+        }
+    }
+
+    /// Counts a refusal 4 at this place where the link there has another duct than all that it repeats.
+    pub fn add_repeat(&mut self, links: &[Link], place: usize) {
+        let Some((link, earlier)) = links.get(..=place).and_then(<[Link]>::split_last) else { return };
+        let same = |other: &&Link| other.pair() == link.pair();
+        self.repeated += usize::from(earlier.iter().filter(same).all(|other| other.duct != link.duct));
+    }
+}
+
+impl Seen for Ducts {
+    const WHAT: &'static str = "a duct";
+
+    fn times(&self) -> Vec<(&'static str, usize)> {
+        vec![
+            ("not written", self.none),
+            ("of 1 to 255", self.some),
+            ("written as 0", self.zero),
+            ("over 255", self.over),
+            ("that is no form", self.ill_written),
+            ("that differs in a repeated link", self.repeated),
+        ]
+    }
+}
+
+fn names_duct(line: &[u8]) -> bool {
+    line.windows(5).any(|word| word == b"(duct")
+}
+
+/// Whether a line is that of a link but for its duct, a number of three digits or more that begins with no 0.
+fn is_over(line: &[u8]) -> bool {
+    let parts = std::str::from_utf8(line).ok().and_then(|line| line.strip_suffix("))")?.split_once(" (duct "));
+    let Some((link, duct)) = parts else { return false };
+    let is_link = matches!(read_form(format!("{link})").as_bytes()), Some(Form::Link(_)));
+    is_link && duct.len() > 2 && !duct.starts_with('0') && duct.bytes().all(|byte| byte.is_ascii_digit())
+}
+
 /// Calls for zones. Wrong sizes are counted again where their sum wraps to N, and where the slice is too short besides.
 #[derive(Clone, Debug, Default)]
 pub struct Zones {
@@ -193,6 +262,46 @@ impl Seen for BroughtOver {
             ("with the same", self.same),
             ("refused 19", refused(19)),
             ("refused 21", refused(21)),
+        ]
+    }
+}
+
+/// Sessions added to a report, by the walks that are lost when a duct fails, or by the number of the refusal.
+#[derive(Clone, Debug, Default)]
+pub struct Reports {
+    none: usize,
+    two: usize,
+    three: usize,
+    /// By number.
+    refused: BTreeMap<u8, usize>,
+}
+
+impl Reports {
+    /// Counts a session by whether a switch loses two walks to a duct, and whether one loses all three.
+    pub fn add(&mut self, answer: Result<[bool; 2], u8>) {
+        match answer {
+            Ok([two, three]) => {
+                self.none += usize::from(!two && !three);
+                self.two += usize::from(two);
+                self.three += usize::from(three);
+            }
+            Err(number) => *self.refused.entry(number).or_default() += 1,
+        }
+    }
+}
+
+impl Seen for Reports {
+    const WHAT: &'static str = "a session of a report";
+
+    fn times(&self) -> Vec<(&'static str, usize)> {
+        let refused = |number| self.refused.get(&number).copied().unwrap_or(0);
+        vec![
+            ("with none lost", self.none),
+            ("with two walks lost", self.two),
+            ("with all three lost", self.three),
+            ("refused 19", refused(19)),
+            ("refused 21", refused(21)),
+            ("refused 25", refused(25)),
         ]
     }
 }

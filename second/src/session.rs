@@ -24,23 +24,10 @@ impl Session {
         let Session::Empty = self else {
             return refuse(20, 0);
         };
-        let network = Network::load(site)?;
+        let network = Network::load(site, plant)?;
         let size = (network.switches, network.links);
         *self = Session::Open(Judge::new(network, plant));
         Ok(size)
-    }
-
-    /// Loads links that are lent as plain numbers, two for each link; half a link at the end is a wrong M.
-    pub fn load_numbers(&mut self, names: &Site, numbers: &[u16], plant: Plant) -> Result<(usize, usize), Refusal> {
-        let Session::Empty = self else {
-            return refuse(20, 0);
-        };
-        let pairs = numbers.chunks_exact(2);
-        if !pairs.remainder().is_empty() {
-            return refuse(1, 0);
-        }
-        let links = pairs.map(|two| (two[0], two[1])).collect();
-        self.load(&Site { links, ..*names }, plant)
     }
 
     /// Offering an ear gives the number of new switches; an empty one has none.
@@ -203,7 +190,7 @@ pub fn ears_of(list: &[u16]) -> impl Iterator<Item = Option<&[u16]>> {
 #[cfg(test)]
 mod tests {
     use super::*;
-    use crate::every::worked_site;
+    use crate::every::{all_joined, worked_site};
     use crate::plan::{leave_short_ears, Plan, Shape, ShortEars};
     use crate::random::Random;
 
@@ -298,8 +285,7 @@ mod tests {
     #[test]
     fn an_empty_ear_leaves_links_with_an_unborn_switch() {
         // Five switches, each two joined. After 0 2 3 1 the links 2 and 4 are taken, those of 4 from link 3 on are left.
-        let links = vec![(0, 1), (0, 2), (0, 3), (0, 4), (1, 2), (1, 3), (1, 4), (2, 3), (2, 4), (3, 4)];
-        let mut session = loaded(&Site { switches: 5, root: 0, first: 1, last: 4, links });
+        let mut session = loaded(&all_joined(5));
         assert_eq!(session.ears(&[4, 0, 2, 3, 1, 0]), (2, None));
         for (short, number, place) in [([0, 3], 11, 0), ([2, 1], 11, 0), ([0, 4], 13, 1), ([4, 1], 13, 0)] {
             assert_eq!(session.ear(&short), refuse(number, place), "{short:?}");

@@ -1,15 +1,17 @@
 //! Makes a script smaller while it still shows what it shows.
 
+use std::collections::HashSet;
 use std::time::{Duration, Instant};
 
-use crate::lines::{ear_line, read_form, Form};
+use crate::lines::{ear_line, link_line, read_form, Form};
+use crate::network::Link;
 
 /// A line with more numbers than this is not changed number by number.
 const MANY_NUMBERS: usize = 64;
 
 /// The smallest script found for which `still` holds, as it holds of the
-/// script given: fewer lines first, then fewer switches, then fewer and
-/// smaller numbers.
+/// script given: fewer lines first, then fewer switches, then fewer ducts, then
+/// fewer and smaller numbers.
 pub fn shrink(script: &[u8], still: &mut dyn FnMut(&[u8]) -> bool) -> Vec<u8> {
     let ends_with_feed = script.ends_with(b"\n");
     let body = if ends_with_feed { &script[..script.len() - 1] } else { script };
@@ -21,6 +23,7 @@ pub fn shrink(script: &[u8], still: &mut dyn FnMut(&[u8]) -> bool) -> Vec<u8> {
         small.drop_lines();
         small.join_switches();
         small.drop_two_lines();
+        small.drop_ducts();
         small.drop_numbers();
         small.lower_numbers();
         if small.lines == before || small.is_late() {
@@ -83,7 +86,7 @@ impl Small<'_> {
         let mut at = 0;
         while at < self.lines.len() && !self.is_late() {
             let taken = match read_form(&self.lines[at]) {
-                Some(Form::Link(a, b)) if a != b => {
+                Some(Form::Link(Link { a, b, .. })) if a != b => {
                     let one = joined(&self.lines, a, b);
                     let other = joined(&self.lines, b, a);
                     self.take(one) || self.take(other)
@@ -115,6 +118,21 @@ impl Small<'_> {
             }
             if !dropped {
                 one += 1;
+            }
+        }
+    }
+
+    /// Takes the ducts of all links away, or of one after another.
+    fn drop_ducts(&mut self) {
+        let all: Vec<Vec<u8>> = self.lines.iter().map(|line| without_duct(line)).collect();
+        if all == self.lines || self.take(all) {
+            return;
+        }
+        for at in 0..self.lines.len() {
+            let mut lines = self.lines.clone();
+            lines[at] = without_duct(&lines[at]);
+            if lines[at] != self.lines[at] {
+                self.take(lines);
             }
         }
     }
@@ -185,19 +203,19 @@ fn joined(lines: &[Vec<u8>], kept: u16, gone: u16) -> Vec<Vec<u8>> {
         s => s,
     };
     let mut smaller: Vec<Vec<u8>> = Vec::new();
+    let mut pairs = HashSet::new();
     for (line, form) in lines.iter().zip(forms) {
         let line = match form {
             Some(Form::Net { switches, root, first, last }) => {
                 let less = switches.saturating_sub(1);
                 format!("(net {less} (root {}) (first {}) (last {}))", to(root), to(first), to(last)).into_bytes()
             }
-            Some(Form::Link(a, b)) => {
-                let (a, b) = (to(a), to(b));
-                let repeats = [format!("(link {a} {b})").into_bytes(), format!("(link {b} {a})").into_bytes()];
-                if a == b || repeats.iter().any(|repeat| smaller.contains(repeat)) {
+            Some(Form::Link(link)) => {
+                let link = Link { a: to(link.a), b: to(link.b), ..link };
+                if link.a == link.b || !pairs.insert(link.pair()) {
                     continue;
                 }
-                repeats[0].clone()
+                link_line(&link).into_bytes()
             }
             Some(Form::Ear(ear)) if ear.len() > 1 => {
                 let mut ear: Vec<u16> = ear.into_iter().map(to).collect();
@@ -215,6 +233,14 @@ fn joined(lines: &[Vec<u8>], kept: u16, gone: u16) -> Vec<Vec<u8>> {
         smaller.push(line);
     }
     smaller
+}
+
+/// The line, of a link without its inner bracket.
+fn without_duct(line: &[u8]) -> Vec<u8> {
+    match read_form(line) {
+        Some(Form::Link(link)) => link_line(&link.in_duct(0)).into_bytes(),
+        _ => line.to_vec(),
+    }
 }
 
 /// Start and end of each number in the line.

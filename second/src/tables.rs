@@ -12,7 +12,7 @@ use crate::Plant;
 pub struct Tables {
     pub switches: usize,
     pub root: u16,
-    network: Network,
+    pub network: Network,
     long_ears: Vec<Vec<u16>>,
     /// The switches in their order.
     pub order: Vec<u16>,

@@ -39,12 +39,14 @@ mod with_the_archive {
         let counts = run(1, 100_000, Plant::Nothing, Fault::Nothing).unwrap_or_else(|found| panic!("{found:?}"));
         assert_eq!(counts.calls, 100_000);
         assert_eq!(counts.missing(), [""; 0]);
-        let names = ["bring over", "clear", "close", "ear", "ears", "load", "parent", "walk", "zones"];
+        let names = ["bring over", "clear", "close", "ear", "ears", "load", "parent"].into_iter();
+        let names: Vec<&str> = names.chain(["report add", "report begin", "walk", "zones"]).collect();
         assert!(counts.granted.keys().eq(&names), "{counts:?}");
         assert!(counts.unknown_granted.keys().eq(names.iter().filter(|name| **name != "load")), "{counts:?}");
         // Memory that reads as empty is the second program's empty session.
         assert_eq!(counts.unknown_empty_ears.missing(), ["an empty ear refused 19"]);
         assert_eq!(counts.unknown_zones.missing(), ["zones refused 19"]);
+        assert_eq!(counts.unknown_reports.missing(), ["a session of a report refused 19"]);
         assert!(counts.stopped > 0 && counts.wrong_lengths > 0 && counts.set_back > 0, "{counts:?}");
     }
 
@@ -60,6 +62,10 @@ mod with_the_archive {
             (Plant::WrongRoom, Kind::Answer),
             (Plant::WrongRule, Kind::Field),
             (Plant::WrongTie, Kind::Field),
+            (Plant::WrongRepeat, Kind::Answer),
+            (Plant::WrongNone, Kind::Field),
+            (Plant::WrongTwo, Kind::Field),
+            (Plant::WrongTurn, Kind::Answer),
         ] {
             let Difference { finding, steps, .. } = difference(plant, Fault::Nothing);
             assert_eq!(finding.kind, kind, "{plant:?}: {finding:?}");
@@ -73,6 +79,12 @@ mod with_the_archive {
             (Fault::Session, Kind::Changed),
             (Fault::Behind, Kind::Outside),
             (Fault::Lent, Kind::Changed),
+            (Fault::LentLink, Kind::Changed),
+            (Fault::Duct, Kind::Field),
+            (Fault::OtherDuct, Kind::Changed),
+            (Fault::Report, Kind::Field),
+            (Fault::RefusedReport, Kind::Changed),
+            (Fault::Added, Kind::Changed),
             (Fault::Rest, Kind::Changed),
             (Fault::Copy, Kind::Copies),
             (Fault::Lengths, Kind::Lengths),
@@ -100,7 +112,7 @@ mod with_the_archive {
             (&["1", "20000", "--plant", "1"], 1),
             (&["1"], 2),
             (&["1", "many"], 2),
-            (&["1", "1000", "--plant", "10"], 2),
+            (&["1", "1000", "--plant", "15"], 2),
         ] {
             let ended = second_calls(arguments);
             assert_eq!(ended.status.code(), Some(status), "{arguments:?}");

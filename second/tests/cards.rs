@@ -2,7 +2,7 @@
 
 use second_reading::dialogue::run_bytes;
 use second_reading::every::{card_k_site, every_list, wheel_site, worked_site};
-use second_reading::network::Site;
+use second_reading::network::{Link, Site};
 use second_reading::session::Session;
 use second_reading::{brute, Plant, Refusal};
 
@@ -19,7 +19,7 @@ fn after_opening(lines: &str) -> String {
     answers(&format!("{WORKED}{lines}")).lines().last().unwrap().to_string()
 }
 
-fn site_of(switches: u16, root: u16, first: u16, last: u16, links: &[(u16, u16)]) -> Site {
+fn site_of(switches: u16, root: u16, first: u16, last: u16, links: &[Link]) -> Site {
     Site { switches, root, first, last, links: links.to_vec() }
 }
 
@@ -174,19 +174,19 @@ fn checks_of_loading_are_separate_passes() {
     let loaded = |site: &Site| Session::Empty.load(site, Plant::Nothing);
     let refused = |number, place| Err(Refusal { number, place });
     let mut links = worked_site().links;
-    links[0] = (0, 0);
-    links[5] = (2, 4);
+    links[0] = (0, 0).into();
+    links[5] = (2, 4).into();
     assert_eq!(loaded(&site_of(4, 0, 1, 3, &links)), refused(2, 5));
-    links[5] = (2, 3);
+    links[5] = (2, 3).into();
     assert_eq!(loaded(&site_of(4, 0, 1, 3, &links)), refused(3, 0));
-    links[0] = (2, 0);
+    links[0] = (2, 0).into();
     assert_eq!(loaded(&site_of(4, 0, 0, 9, &links)), refused(4, 1));
-    links[0] = (0, 1);
+    links[0] = (0, 1).into();
     assert_eq!(loaded(&site_of(4, 0, 1, 4, &links)), refused(5, 0));
     assert_eq!(loaded(&site_of(4, 0, 1, 1, &links)), refused(5, 0));
     links.remove(2);
-    links.push((1, 4));
-    links.push((3, 4));
+    links.push((1, 4).into());
+    links.push((3, 4).into());
     assert_eq!(loaded(&site_of(5, 0, 1, 3, &links)), refused(6, 0));
 }
 

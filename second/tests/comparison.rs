@@ -34,27 +34,36 @@ fn each_planted_fault_is_found_and_made_small() {
         Plant::WrongOrder,
         Plant::WrongRule,
         Plant::WrongTie,
+        Plant::WrongDuct,
+        Plant::WrongRepeat,
     ] {
         let (small, finding) = finding(Plant::Nothing, plant, 200).expect("the fault is found");
         assert_eq!(finding.kind, Kind::OutputsDiffer, "{plant:?}");
-        assert!(lines(&small) <= 20, "{plant:?}: {}", String::from_utf8_lossy(&small));
+        assert!(lines(&small) <= 30, "{plant:?}: {}", String::from_utf8_lossy(&small));
     }
 }
 
 /// When both programs have the same fault, only the definitions find it.
 #[test]
 fn the_papers_find_a_fault_of_both() {
-    for plant in
-        [Plant::WrongParent, Plant::WrongList, Plant::WrongLinks, Plant::WrongOrder, Plant::WrongRule, Plant::WrongTie]
-    {
+    for plant in [
+        Plant::WrongParent,
+        Plant::WrongList,
+        Plant::WrongLinks,
+        Plant::WrongOrder,
+        Plant::WrongRule,
+        Plant::WrongTie,
+        Plant::WrongDuct,
+        Plant::WrongRepeat,
+    ] {
         let (small, finding) = finding(plant, plant, 400).expect("the fault is found");
         assert_eq!(finding.kind, Kind::AgainstThePapers, "{plant:?}");
         assert!(lines(&small) <= 60, "{plant:?}: {}", String::from_utf8_lossy(&small));
     }
 }
 
-/// The scripts of a seed reach every refusal that lines can show, every answer to an empty ear, both crossed ears, and
-/// third walks that document 02, Note 6, made shorter.
+/// The scripts of a seed reach every refusal that lines can show, every answer to an empty ear, both crossed ears,
+/// third walks that document 02, Note 6, made shorter, and ducts in every writing.
 #[test]
 fn every_refusal_is_reached() {
     let second = Program::Second(Plant::Nothing);

@@ -10,7 +10,7 @@ use second_reading::every::{
     all_joined, card_k_site, every_closed_list, every_network, named, prism, wheel_site, worked_site,
 };
 use second_reading::later::Later;
-use second_reading::network::{Site, MAX_SWITCHES};
+use second_reading::network::{in_no_duct, Site, MAX_SWITCHES};
 use second_reading::plan::{Plan, Shape};
 use second_reading::random::Random;
 use second_reading::session::{list_of, Session};
@@ -141,7 +141,7 @@ fn hold_bringing_over(now: &Session, before: &mut Session) -> bool {
 /// The archive closes with the same tree 3, and brings over one that has the lowest numbers.
 #[cfg(archive)]
 fn hold_archive(site: &Site, ears: &[Vec<u16>], now: &Session) {
-    let links: Vec<u16> = site.links.iter().flat_map(|&(a, b)| [a, b]).collect();
+    let links = archive::records(&site.links);
     let n = usize::from(site.switches);
     let mut session = Box::new(archive::Session::EMPTY);
     let mut parts = session.parts();
@@ -270,7 +270,7 @@ fn the_search_finds_faults() {
     }
     // One switch more: of two neighbours with walks as short the lower number is taken.
     let ears = [vec![0, 2, 1], vec![2, 3, 1], vec![2, 4, 1], vec![3, 5, 4]];
-    let links = vec![(0, 1), (0, 2), (2, 1), (2, 3), (3, 1), (2, 4), (4, 1), (3, 5), (5, 4), (0, 5)];
+    let links = in_no_duct(&[(0, 1), (0, 2), (2, 1), (2, 3), (3, 1), (2, 4), (4, 1), (3, 5), (5, 4), (0, 5)]);
     let later = Later::of(&Site { switches: 6, root: 0, first: 1, last: 5, links }, &ears).unwrap();
     assert_eq!(later.nearest(2), [3, 4]);
     assert_eq!(later.check_walk(2, &[2, 3, 5, 0]), Ok(()));

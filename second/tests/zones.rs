@@ -58,7 +58,7 @@ impl Closed<'_> {
 /// The archive's session after load, this list and close.
 #[cfg(archive)]
 fn of_archive(site: &Site, list: &[u16]) -> Box<archive::Session> {
-    let links: Vec<u16> = site.links.iter().flat_map(|&(a, b)| [a, b]).collect();
+    let links = archive::records(&site.links);
     let mut session = Box::new(archive::Session::EMPTY);
     let mut parts = session.parts();
     let loaded = parts.load(site.switches, &links, site.root, site.first, site.last);

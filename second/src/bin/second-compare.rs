@@ -1,7 +1,7 @@
 //! `second-compare PATH SEED COUNT` compares the program at PATH with the
 //! second one on generated scripts; `second-compare PATH FILE..` on files;
 //! `second-compare PATH every` on every list of ears of small networks.
-//! `--plant N` (1 to 5, 8 and 9) puts a fault into the second program on purpose.
+//! `--plant N` (1 to 5 and 8 to 11) puts a fault into the second program on purpose.
 //! With `-` for PATH the second program, without a fault, stands for the first.
 
 use std::io::Write;
@@ -16,8 +16,8 @@ use second_reading::network::Site;
 use second_reading::script::script;
 use second_reading::Plant;
 
-/// With so many scripts or more, an empty ear has to be seen with every answer that it can have, both crossed ears, and
-/// third walks that document 02, Note 6, made shorter.
+/// With so many scripts or more, an empty ear has to be seen with every answer that it can have, both crossed ears,
+/// third walks that document 02, Note 6, made shorter, and ducts in every writing.
 const ENOUGH: usize = 300;
 
 const USAGE: &str = "second-compare PATH SEED COUNT [--plant N]\nsecond-compare PATH FILE.. [--plant N]\nsecond-compare PATH every [--plant N]";

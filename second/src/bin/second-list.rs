@@ -1,10 +1,11 @@
-//! `second-list PLAN` loads the network of a plan, offers its ears as one list, closes, brings over, and asks for all
-//! walks and for the zones of some sizes, in functions that a profiler finds by name (`bench/archive`). It prints the
-//! count of ears accepted, then the longest third walk and the average one, and both as they were before document 02,
-//! Note 6; and ends with 1 where anything is refused.
+//! `second-list PLAN` loads the network of a plan, offers its ears as one list, closes, brings over, asks for all walks
+//! and for the zones of some sizes, and adds the session to a report, in functions that a profiler finds by name
+//! (`bench/archive`). It prints the count of ears accepted, then the longest third walk and the average one, and both as
+//! they were before document 02, Note 6; and ends with 1 where anything is refused.
 
 use std::process::ExitCode;
 
+use second_reading::ducts::Report;
 use second_reading::lines::{read_form, Form};
 use second_reading::network::{Site, MAX_SWITCHES};
 use second_reading::session::{list_of, Session};
@@ -47,6 +48,12 @@ pub fn measured_zones(session: &Session, sizes: [u16; 3], out: &mut [u16]) -> Re
     session.zones(sizes, out)
 }
 
+#[no_mangle]
+#[inline(never)]
+pub fn measured_report_add(session: &Session, report: &mut Report) -> Result<(), Refusal> {
+    report.add(session, Plant::Nothing)
+}
+
 /// The sizes that are asked for, in a network of so many switches.
 fn sizes(n: u16) -> [[u16; 3]; 4] {
     [[1, 1, n - 2], [n / 3, n / 3, n - 2 * (n / 3)], [n - 2, 1, 1], [1, n - 2, 1]]
@@ -60,7 +67,7 @@ fn read_plan(plan: &[u8]) -> (Site, Vec<u16>) {
             Form::Net { switches, root, first, last } => {
                 names = Site { switches, root, first, last, links: Vec::new() };
             }
-            Form::Link(a, b) => links.push((a, b)),
+            Form::Link(link) => links.push(link),
             Form::Ear(ear) => ears.push(ear),
             _ => {}
         }
@@ -95,7 +102,8 @@ fn main() -> ExitCode {
     let mut out = [0; MAX_SWITCHES];
     let mut walks = (1..=3).flat_map(|tree| (0..site.switches).map(move |switch| (switch, tree)));
     let walked = walks.all(|(switch, tree)| measured_walk(&session, switch, tree, &mut out).is_ok());
-    match walked && sizes(site.switches).into_iter().all(|sizes| measured_zones(&session, sizes, &mut out).is_ok()) {
+    let zoned = sizes(site.switches).into_iter().all(|sizes| measured_zones(&session, sizes, &mut out).is_ok());
+    match walked && zoned && measured_report_add(&session, &mut Report::EMPTY.clone()).is_ok() {
         true => ExitCode::SUCCESS,
         false => ExitCode::FAILURE,
     }

@@ -3,16 +3,17 @@
 
 use std::fmt::{Display, Formatter, Result as Written};
 
-use crate::archive::{self, Parts};
-use crate::network::Site;
+use crate::archive::{self, Parts, Record, ReportParts};
+use crate::ducts::Report;
+use crate::lines::link_line;
+use crate::network::{Link, Site};
 use crate::session::{ears_of, Session};
 use crate::{Plant, Refusal};
 
 #[derive(Clone, Debug)]
 pub enum Call {
     Clear,
-    /// A site without its links, and links as plain numbers.
-    Load(Site, Vec<u16>),
+    Load(Site),
     Ear(Vec<u16>),
     /// A list of ears, each preceded by its count of numbers.
     Ears(Vec<u16>),
@@ -31,6 +32,9 @@ pub enum Call {
         sizes: [u16; 3],
         room: usize,
     },
+    /// A report is begun, and the session is added to it.
+    ReportBegin,
+    ReportAdd,
 }
 
 /// The values that a call gives (of a walk the count, then the switches; of zones those of all switches), or its
@@ -53,11 +57,6 @@ impl Answer {
 }
 
 impl Call {
-    /// The site's names and switches, with these numbers for its links.
-    pub fn load(site: &Site, numbers: Vec<u16>) -> Call {
-        Call::Load(Site { links: Vec::new(), ..*site }, numbers)
-    }
-
     pub fn is_empty_ear(&self) -> bool {
         matches!(self, Call::Ear(ear) if ear.is_empty())
     }
@@ -74,7 +73,15 @@ impl Call {
     /// The numbers that the call lends for reading.
     pub fn lent(&self) -> &[u16] {
         match self {
-            Call::Load(_, numbers) | Call::Ear(numbers) | Call::Ears(numbers) => numbers,
+            Call::Ear(numbers) | Call::Ears(numbers) => numbers,
+            _ => &[],
+        }
+    }
+
+    /// The links that it lends for reading.
+    pub fn links(&self) -> &[Link] {
+        match self {
+            Call::Load(site) => &site.links,
             _ => &[],
         }
     }
@@ -87,17 +94,20 @@ impl Call {
         }
     }
 
-    /// Makes the call on the second program's session.
-    pub fn second(&self, session: &mut Session, plant: Plant) -> Answer {
+    /// Whether the call is lent a report.
+    pub fn has_report(&self) -> bool {
+        matches!(self, Call::ReportBegin | Call::ReportAdd)
+    }
+
+    /// Makes the call on the second program's session and report.
+    pub fn second(&self, session: &mut Session, report: &mut Report, plant: Plant) -> Answer {
         let mut accepted = 0;
         let values = match self {
             Call::Clear => {
                 session.clear();
                 Ok(Vec::new())
             }
-            Call::Load(names, numbers) => {
-                session.load_numbers(names, numbers, plant).map(|(n, m)| vec![n as u16, m as u16])
-            }
+            Call::Load(site) => session.load(site, plant).map(|(n, m)| vec![n as u16, m as u16]),
             Call::Ear(ear) => session.ear(ear).map(|new| vec![new as u16]),
             Call::Ears(list) => {
                 let (count, refusal) = session.ears(list);
@@ -112,24 +122,29 @@ impl Call {
                 walk.map(|walk| [&[walk.len() as u16], &walk[..]].concat())
             }
             Call::Zones { sizes, room } => session.zones_within(*sizes, *room),
+            Call::ReportBegin => {
+                *report = Report::EMPTY;
+                Ok(Vec::new())
+            }
+            Call::ReportAdd => report.add(session, plant).map(|()| Vec::new()),
         };
         Answer { accepted, values }
     }
 
-    /// Makes the call on a session of the archive. Its numbers are lent at `lent`, and it writes at the other three.
+    /// Makes the call on a session and a report of the archive. Its numbers are lent at `lent`, its links at `links`, and
+    /// it writes at the other three.
     pub fn archive(
         &self,
-        parts: &mut Parts,
+        (mut parts, mut report): (Parts, ReportParts),
         lent: &[u16],
+        links: &[Record],
         out: &mut [u16],
         value: &mut u16,
         accepted: &mut usize,
     ) -> archive::Refusal {
         match self {
             Call::Clear => parts.clear(),
-            Call::Load(Site { switches, root, first, last, .. }, _) => {
-                parts.load(*switches, lent, *root, *first, *last)
-            }
+            Call::Load(Site { switches, root, first, last, .. }) => parts.load(*switches, links, *root, *first, *last),
             Call::Ear(_) => parts.ear(lent, value),
             Call::Ears(_) => parts.ears(lent, accepted),
             Call::Close => parts.close(),
@@ -137,6 +152,8 @@ impl Call {
             Call::Parent { switch, tree } => parts.parent(*switch, *tree, value),
             Call::Walk { switch, tree, .. } => parts.walk(*switch, *tree, out, value),
             Call::Zones { sizes, .. } => parts.zones(*sizes, out),
+            Call::ReportBegin => report.begin(),
+            Call::ReportAdd => parts.report_add(&mut report),
         }
     }
 }
@@ -154,8 +171,9 @@ impl Display for Call {
     fn fmt(&self, out: &mut Formatter) -> Written {
         match self {
             Call::Clear => write!(out, "clear"),
-            Call::Load(Site { switches, root, first, last, .. }, numbers) => {
-                write!(out, "load {switches} root {root} first {first} last {last} links{}", Numbers(numbers))
+            Call::Load(Site { switches, root, first, last, links }) => {
+                write!(out, "load {switches} root {root} first {first} last {last}")?;
+                links.iter().try_for_each(|link| write!(out, " {}", link_line(link)))
             }
             Call::Ear(ear) => write!(out, "ear{}", Numbers(ear)),
             Call::Ears(list) => write!(out, "ears{}", Numbers(list)),
@@ -164,6 +182,8 @@ impl Display for Call {
             Call::Parent { switch, tree } => write!(out, "parent {switch} {tree}"),
             Call::Walk { switch, tree, room } => write!(out, "walk {switch} {tree} into {room}"),
             Call::Zones { sizes, room } => write!(out, "zones{} into {room}", Numbers(sizes)),
+            Call::ReportBegin => write!(out, "report begin"),
+            Call::ReportAdd => write!(out, "report add"),
         }
     }
 }

@@ -7,8 +7,8 @@ use super::lists::{any_list, damaged_list, empty_ears};
 use crate::archive::{self, CLOSED, OPEN};
 use crate::damage::{damage_site, damaged_ear, last_by_root, tried_ear, tried_in_vain};
 use crate::judge::Judge;
-use crate::network::{Site, MAX_LINKS};
-use crate::plan::{Plan, Shape};
+use crate::network::{Link, MAX_LINKS};
+use crate::plan::{any_duct, Plan, Shape};
 use crate::random::Random;
 use crate::session::{list_of, Session};
 
@@ -85,6 +85,7 @@ impl Draw {
             Session::Open(judge) if self.tries || random.chance(50) => self.tried(random, judge),
             Session::Open(_) => Call::Close,
             Session::Closed(_) if random.chance(15) => Call::BringOver,
+            Session::Closed(_) if random.chance(15) => report(random),
             Session::Closed(_) => query(random, session, self.plan.site.switches),
         })
     }
@@ -132,6 +133,7 @@ impl Draw {
             7 if random.chance(20) => Call::Ear(Vec::new()),
             7 if random.chance(5) => Call::Ears(empty_ears(random)),
             8 if matches!(session, Session::Empty) || random.chance(20) => Call::BringOver,
+            9 if matches!(session, Session::Empty) || random.chance(30) => report(random),
             _ => Call::Ear(self.stray_ear(random, session)),
         }
     }
@@ -180,33 +182,37 @@ impl Draw {
 
     /// The plan's network, damaged in so many of a hundred cases.
     fn load(&self, random: &mut Random, damaged: usize) -> Call {
-        let flat = |site: &Site| site.links.iter().flat_map(|&(a, b)| [a, b]).collect();
-        if !random.chance(damaged) {
-            return Call::load(&self.plan.site, flat(&self.plan.site));
-        }
         let mut site = self.plan.site.clone();
+        if !random.chance(damaged) {
+            return Call::Load(site);
+        }
         for _ in 0..random.below(4) {
             damage_site(random, &mut site);
         }
-        let mut numbers: Vec<u16> = flat(&site);
+        let links = &mut site.links;
         match random.below(60) {
-            0 => numbers.clear(),
-            1 => numbers.truncate(numbers.len().saturating_sub(1)),
-            2 => numbers.push(random.below(5) as u16),
-            3 => numbers = any_numbers(random, 9000),
-            4 => numbers = numbers.iter().cycle().take(random.within(8190, 8200)).copied().collect(),
-            5 if random.chance(30) => numbers.extend(vec![0; 131072]),
+            0 => links.clear(),
+            1 => links.truncate(links.len().saturating_sub(1)),
+            2 => links.push(Link { a: random.below(5) as u16, b: random.below(5) as u16, duct: any_duct(random) }),
+            3 => {
+                let numbers = any_numbers(random, 9000);
+                let two = |two: &[u16]| Link { a: two[0], b: two[1], duct: random.number() as u8 };
+                *links = numbers.chunks_exact(2).map(two).collect();
+            }
+            4 => *links = links.iter().cycle().take(random.within(4095, 4100)).copied().collect(),
+            5 if random.chance(30) => links.extend(vec![Link::default(); 65536]),
             _ => {}
         }
-        Call::load(&site, numbers)
+        Call::Load(site)
     }
 
     /// A call on memory that no calls made, most often one for its stage.
     pub fn wild(&mut self, random: &mut Random, memory: &archive::Session) -> Call {
         let kind = match memory.stage {
-            _ if random.chance(15) => random.below(27),
+            _ if random.chance(15) => random.below(28),
             OPEN => random.within(5, 25),
             CLOSED if random.chance(30) => 26,
+            CLOSED if random.chance(30) => 27,
             CLOSED => random.within(3, 4),
             _ => random.below(4),
         };
@@ -220,6 +226,7 @@ impl Draw {
             11..=14 => Call::Ear(path(random, memory)),
             15..=21 => Call::Ear(self.moved_ears(memory, 1).concat()),
             26 => Call::BringOver,
+            27 => report(random),
             _ => Call::Ears(self.wild_list(random, memory)),
         }
     }
@@ -244,5 +251,13 @@ impl Draw {
         self.at = at + 1;
         let next = self.plan.ears.iter().cycle().skip(at).take(count);
         next.map(|ear| ear.iter().map(|switch| switch.wrapping_add(by)).collect()).collect()
+    }
+}
+
+/// A call of a report: it is begun, or most often the session is added.
+fn report(random: &mut Random) -> Call {
+    match random.chance(10) {
+        true => Call::ReportBegin,
+        false => Call::ReportAdd,
     }
 }

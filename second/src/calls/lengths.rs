@@ -5,18 +5,20 @@ use super::call::Call;
 use super::lent::{Apart, Lengths, Memory, RIGHT};
 use super::side::{Fault, Side};
 use super::trial::{Finding, Kind};
-use crate::archive::{Session, LENGTHS};
+use crate::archive::{Report, Session, LENGTHS};
 use crate::random::Random;
 
 /// Another length of one, two or all of the arrays that the call is lent.
 pub fn wrong_lengths(random: &mut Random, call: &Call) -> Lengths {
     let lent: &[usize] = match call {
-        Call::Clear | Call::Load(..) => &[0, 1, 2, 3, 4, 5, 6],
+        Call::Clear | Call::Load(_) => &[0, 1, 2, 3, 4, 5, 6, 7],
         Call::Ear(_) | Call::Ears(_) => &[0, 1, 2, 3, 4, 6],
         Call::Close => &[0, 1, 5, 6],
         Call::BringOver => &[0, 1, 5],
         Call::Parent { .. } | Call::Walk { .. } => &[3, 4, 5],
         Call::Zones { .. } => &[1, 2],
+        Call::ReportBegin => &[8, 9],
+        Call::ReportAdd => &[0, 3, 4, 5, 7, 8, 9],
     };
     let mut lengths = RIGHT;
     let count = *random.pick(&[1, 1, 1, 2, lent.len()]);
@@ -29,7 +31,7 @@ pub fn wrong_lengths(random: &mut Random, call: &Call) -> Lengths {
 
 /// Makes the call on a copy of the session with arrays of these lengths.
 pub fn make_wrong(
-    session: &Session,
+    (session, report): (&Session, &Report),
     call: &Call,
     lengths: Lengths,
     filler: &[u16],
@@ -38,9 +40,10 @@ pub fn make_wrong(
     let lengths = if fault == Fault::Lengths { RIGHT } else { lengths };
     let mut side = Side::new(Apart::new(32, 0xC3, lengths), 32, 0xC3C3, true);
     side.memory.set(session);
+    side.memory.set_report(report);
     let refusal = side.make(call, filler);
     if refusal != LENGTHS {
         return Finding::of(Kind::Lengths, &format!("arrays of lengths {lengths:?} got {refusal:?}"));
     }
-    side.check(call, filler, session, refusal)
+    side.check(call, filler, (session, report), refusal)
 }

@@ -2,32 +2,38 @@
 //! Numbers past the end of an array read as 0, a table has at most the array's links, and a walk at most N switches.
 //! Tree 3 after close or bringing over is not known there, but nothing else may change.
 //! Zones are 1 to 3 there too, and 3 for a switch that stands nowhere in the order.
+//! Of a report only its count is known there, and an empty one is always begun.
 //! A list of ears answers and leaves what its ears do, offered one by one to another session of the same memory.
 
 use super::call::{Answer, Call, Values};
-use crate::archive::{Session, CLOSED, OPEN};
+use crate::archive::{Report, Session, CLOSED, OPEN};
+use crate::ducts::MOST_SESSIONS;
 use crate::session::ears_of;
 use crate::zones::are_sizes;
 use crate::{refuse, Refusal};
 
 /// Whether the call may be answered so.
-pub fn may_answer(call: &Call, session: &Session, answer: &Answer) -> bool {
-    let is_open = session.stage == OPEN;
+pub fn may_answer(call: &Call, session: &Session, report: &Report, answer: &Answer) -> bool {
+    let (is_open, is_full) = (session.stage == OPEN, report.sessions == MOST_SESSIONS);
     let settled = match call {
         Call::Clear => Ok(Vec::new()),
-        Call::Load(..) => refuse(20, 0),
+        Call::Load(_) => refuse(20, 0),
         Call::Ear(_) if is_open && call.is_empty_ear() => empty_ear(session),
         Call::Ear(ear) if is_open => return may_judge(ear, &answer.values),
         Call::Ears(list) => return *answer == one_by_one(&mut session.clone(), list),
         Call::Close if is_open => close(session),
         Call::Ear(_) | Call::Close => refuse(22, 0),
-        Call::BringOver | Call::Parent { .. } | Call::Walk { .. } | Call::Zones { .. } if is_open => refuse(21, 0),
+        Call::BringOver | Call::Parent { .. } | Call::Walk { .. } if is_open => refuse(21, 0),
+        Call::Zones { .. } | Call::ReportAdd if is_open => refuse(21, 0),
         Call::BringOver => Ok(Vec::new()),
         Call::Parent { switch, tree } => row(session, *switch, *tree).map(|row| vec![entry(row, *switch)]),
         Call::Walk { switch, tree, room } => walk(session, *switch, *tree, *room),
         Call::Zones { sizes, .. } if !are_sizes(*sizes, session.n.into()) => refuse(24, 0),
         Call::Zones { room, .. } if *room < session.n.into() => refuse(18, 0),
         Call::Zones { .. } => return answer.values.as_ref().is_ok_and(|zones| may_be_zones(session, zones)),
+        Call::ReportBegin => Ok(Vec::new()),
+        Call::ReportAdd if is_full => refuse(25, 0),
+        Call::ReportAdd => Ok(Vec::new()),
     };
     *answer == Answer { accepted: 0, values: settled }
 }
@@ -123,7 +129,7 @@ pub fn leaves(call: &Call, before: &Session, after: &Session) -> bool {
     let same_network = network(before) == network(after);
     match call {
         Call::Clear => *after == Session::EMPTY,
-        Call::Load(..) => after.stage == OPEN,
+        Call::Load(_) => after.stage == OPEN,
         Call::Ear(_) if call.is_empty_ear() => *after == with_leftover_taken(before).1,
         Call::Ear(_) => same_network && after.stage == OPEN && before.tree3 == after.tree3,
         Call::Ears(list) => {
@@ -133,12 +139,13 @@ pub fn leaves(call: &Call, before: &Session, after: &Session) -> bool {
         }
         Call::Close | Call::BringOver => same_network && after.stage == CLOSED && tables(before) == tables(after),
         Call::Parent { .. } | Call::Walk { .. } | Call::Zones { .. } => before == after,
+        Call::ReportBegin | Call::ReportAdd => before == after,
     }
 }
 
-fn network(session: &Session) -> ([u16; 5], &[u16]) {
-    let Session { n, m, root, first, last, links, .. } = session;
-    ([*n, *m, *root, *first, *last], links)
+fn network(session: &Session) -> ([u16; 5], &[u16], &[u8]) {
+    let Session { n, m, root, first, last, links, ducts, .. } = session;
+    ([*n, *m, *root, *first, *last], links, ducts)
 }
 
 /// What accepted ears change.

@@ -1,7 +1,8 @@
-//! Overwrites the memory of a session: a number, an array, some numbers or all, at random or all alike.
+//! Overwrites the memory of a session or of a report: a number, an array, some numbers or all, at random or all alike.
 //! The stage is then set, most times, so that calls get past the checks of the state.
 
-use crate::archive::{Session, NUMBERS};
+use crate::archive::{Report, Session, NUMBERS};
+use crate::ducts::MOST_SESSIONS;
 use crate::network::MAX_LINKS;
 use crate::random::Random;
 
@@ -15,7 +16,8 @@ pub fn overwrite(session: &mut Session, seed: u64) {
             1 => session.numbers_mut().fill(*random.pick(&[0xffff, 0, 1, 3, 0x0101])),
             2 => some_numbers(session, random),
             3..=6 => one_number(session, random),
-            7 => random_used(session, random),
+            7 if random.chance(50) => random_bytes(&mut session.ducts, random),
+            7 => random_bytes(&mut session.used, random),
             8 | 9 => moved(session, random),
             _ => one_row(session, random),
         }
@@ -48,10 +50,10 @@ fn one_number(session: &mut Session, random: &mut Random) {
     *[stage, n, m, root, first, last, longs, born][at] = number(random);
 }
 
-fn random_used(session: &mut Session, random: &mut Random) {
+fn random_bytes(row: &mut [u8], random: &mut Random) {
     let whole = random.chance(70);
     let value = *random.pick(&[0, 1, 2, 255]);
-    session.used.iter_mut().filter(|_| whole || random.chance(50)).for_each(|used| *used = value);
+    row.iter_mut().filter(|_| whole || random.chance(50)).for_each(|entry| *entry = value);
 }
 
 /// The network with all its numbers raised, most often past the end of the arrays, and without an ear most times.
@@ -85,4 +87,24 @@ fn one_row(session: &mut Session, random: &mut Random) {
         3 => random.shuffle(row),
         _ => row.iter_mut().enumerate().for_each(|(at, entry)| *entry = at as u16 + 1),
     }
+}
+
+/// A report that no calls made, or one as if sessions without ducts had been added besides, most often nearly full.
+pub fn other_report(report: &Report, random: &mut Random) -> Box<Report> {
+    let mut other = Box::new(report.clone());
+    other.sessions = match random.below(6) {
+        0 => random.number() as u16,
+        1 => random.below(3) as u16,
+        _ => MOST_SESSIONS - random.below(4) as u16,
+    };
+    other.unused = random.number() as u16;
+    let value = *random.pick(&[0, 1, 65535, u32::MAX / 2, u32::MAX - 2000, u32::MAX - 3, u32::MAX]);
+    let rows = [&mut other.two, &mut other.three];
+    match random.below(8) {
+        0 => rows.into_iter().for_each(|row| row.fill(value)),
+        1 => rows.into_iter().flatten().for_each(|entry| *entry = random.number() as u32),
+        2 => rows.into_iter().for_each(|row| row[random.below(256)] = value),
+        _ => {}
+    }
+    other
 }

@@ -7,16 +7,18 @@ use std::time::{Duration, Instant};
 use super::call::{Answer, Call};
 use super::draw::Draw;
 use super::lengths::wrong_lengths;
+use super::overwrite::other_report;
 use super::side::Fault;
 use super::trial::{Done, Finding, Step, Trial};
+use crate::archive;
 use crate::compare::refusals_told;
 use crate::random::Random;
-use crate::seen::{BroughtOver, CrossedEars, EmptyEars, Seen, Zones};
+use crate::seen::{BroughtOver, CrossedEars, EmptyEars, Reports, Seen, Zones};
 use crate::session::ears_of;
 use crate::Plant;
 
-/// With so many calls or more, every refusal has to be seen, every answer to an empty ear, to zones and to bringing
-/// over, and both crossed ears.
+/// With so many calls or more, every refusal has to be seen, every answer to an empty ear, to zones, to bringing over and
+/// to a report, and both crossed ears.
 const ENOUGH: usize = 100_000;
 
 /// What was seen.
@@ -32,6 +34,7 @@ pub struct Counts {
     pub crossed_ears: CrossedEars,
     pub zones: Zones,
     pub brought_over: BroughtOver,
+    pub reports: Reports,
     /// Sessions whose tree 3 was set to other entries, those of the lowest numbers.
     pub set_back: usize,
     /// Lists that were refused at an ear behind accepted ones, and lists with an empty ear accepted.
@@ -44,6 +47,7 @@ pub struct Counts {
     pub unknown_refusals: BTreeMap<u16, BTreeMap<u16, usize>>,
     pub unknown_empty_ears: EmptyEars,
     pub unknown_zones: Zones,
+    pub unknown_reports: Reports,
     /// Calls with arrays of other lengths than the struct's.
     pub wrong_lengths: usize,
 }
@@ -98,6 +102,7 @@ impl Run {
     fn session(&mut self, random: &mut Random, session: u64) -> Result<(), Finding> {
         self.counts.sessions += 1;
         self.steps.clear();
+        self.set_report(self.trial.report().clone().into())?;
         let mut draw = Draw::of(random, session);
         let mut until = if random.chance(30) { draw.overwritten_after(random) } else { usize::MAX };
         while until > 0 && !self.is_over() {
@@ -109,6 +114,9 @@ impl Run {
             }
             if random.chance(2) {
                 self.wrong_lengths(random, &call)?;
+            }
+            if random.chance(1) {
+                self.set_report(other_report(self.trial.report(), random))?;
             }
             self.step(Step::Call(call))?;
             until -= 1;
@@ -133,6 +141,11 @@ impl Run {
             self.step(Step::Call(call))?;
         }
         Ok(())
+    }
+
+    /// Goes on with this report.
+    fn set_report(&mut self, report: Box<archive::Report>) -> Result<(), Finding> {
+        self.step(Step::SetReport(report))
     }
 
     fn wrong_lengths(&mut self, random: &mut Random, call: &Call) -> Result<(), Finding> {
@@ -183,7 +196,7 @@ impl Run {
 fn name(call: &Call) -> &'static str {
     match call {
         Call::Clear => "clear",
-        Call::Load(..) => "load",
+        Call::Load(_) => "load",
         Call::Ear(_) => "ear",
         Call::Ears(_) => "ears",
         Call::Close => "close",
@@ -191,13 +204,15 @@ fn name(call: &Call) -> &'static str {
         Call::Parent { .. } => "parent",
         Call::Walk { .. } => "walk",
         Call::Zones { .. } => "zones",
+        Call::ReportBegin => "report begin",
+        Call::ReportAdd => "report add",
     }
 }
 
 impl Counts {
     fn add(&mut self, step: &Step, done: &Done) {
         match (step, done) {
-            (Step::Call(call), Done::Answered { answer, known, n, leftover, crossed, brought }) => {
+            (Step::Call(call), Done::Answered { answer, known, n, leftover, crossed, brought, lost }) => {
                 self.calls += 1;
                 self.add_answer(call, answer, *known);
                 if let Some(crossed) = crossed {
@@ -210,12 +225,17 @@ impl Counts {
                 if let (Call::BringOver, true) = (call, *known) {
                     self.brought_over.add(answer.values.as_ref().map(|_| *brought).map_err(|refusal| refusal.number));
                 }
+                if let Call::ReportAdd = call {
+                    let reports = if *known { &mut self.reports } else { &mut self.unknown_reports };
+                    reports.add(answer.values.as_ref().map(|_| *lost).map_err(|refusal| refusal.number));
+                }
                 if let Call::Zones { sizes, room } = call {
                     let zones = if *known { &mut self.zones } else { &mut self.unknown_zones };
                     let refused = answer.values.as_ref().err().map(|refusal| refusal.number.into());
                     zones.add(refused, *sizes, *n, *room);
                 }
             }
+            (_, Done::SetReport) => {}
             (_, Done::SetBack(differs)) => self.set_back += usize::from(*differs),
             (_, Done::Lengths) => {
                 self.calls += 1;
@@ -245,14 +265,14 @@ impl Counts {
         }
     }
 
-    /// The refusals, ears, zones and bringing over that were never seen although there were calls enough.
+    /// The refusals, ears, zones, bringing over and reports that were never seen although there were calls enough.
     pub fn missing(&self) -> Vec<String> {
         if self.calls < ENOUGH {
             return Vec::new();
         }
-        let refusals = (1..=24).filter(|number| !self.refusals.contains_key(number)).map(|number| number.to_string());
+        let refusals = (1..=25).filter(|number| !self.refusals.contains_key(number)).map(|number| number.to_string());
         let ears = [self.empty_ears.missing(), self.crossed_ears.missing()].concat();
-        let kinds = [ears, self.zones.missing(), self.brought_over.missing()].concat();
+        let kinds = [ears, self.zones.missing(), self.brought_over.missing(), self.reports.missing()].concat();
         let listed = (self.lists_with_empty == 0).then(|| "an empty ear in a list".to_string());
         refusals.chain(kinds).chain(listed).collect()
     }
@@ -267,8 +287,8 @@ pub fn summary(counts: &Counts) -> String {
     format!(
         "equal: {} calls, {} sessions; {} compared with the second program, granted {}, \
          refusals (number:times/places) {}, empty ears: {}, crossed ears: {}, zones: {}, \
-         {} with tree 3 set back to the lowest numbers, brought over: {}; \
-         {} overwritten, {} calls on them, granted {}, refusals {}, empty ears: {}, zones: {}; \
+         {} with tree 3 set back to the lowest numbers, brought over: {}, added to a report: {}; \
+         {} overwritten, {} calls on them, granted {}, refusals {}, empty ears: {}, zones: {}, added to a report: {}; \
          {} lists stopped behind accepted ears, {} with an empty ear accepted; {} calls with arrays of wrong lengths",
         counts.calls,
         counts.sessions,
@@ -280,12 +300,14 @@ pub fn summary(counts: &Counts) -> String {
         counts.zones.told(),
         counts.set_back,
         counts.brought_over.told(),
+        counts.reports.told(),
         counts.overwritten,
         counts.unknown,
         told(&counts.unknown_granted),
         refusals_told(&counts.unknown_refusals),
         counts.unknown_empty_ears.told(),
         counts.unknown_zones.told(),
+        counts.unknown_reports.told(),
         counts.stopped,
         counts.lists_with_empty,
         counts.wrong_lengths,

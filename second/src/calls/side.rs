@@ -4,7 +4,8 @@
 use super::call::{Answer, Call, Values};
 use super::lent::{Lent, Memory};
 use super::trial::{Finding, Kind};
-use crate::archive::{Refusal, Session, LENGTHS};
+use crate::archive::{Record, Refusal, Report, Session, LENGTHS};
+use crate::network::Link;
 
 /// A fault put in on purpose behind a call of the archive, so that a test can see it found.
 #[derive(Clone, Copy, Debug, PartialEq, Eq, Default)]
@@ -17,6 +18,18 @@ pub enum Fault {
     Behind,
     /// A number that is lent for reading changes.
     Lent,
+    /// The byte behind the duct of a link that is lent changes.
+    LentLink,
+    /// A load leaves another duct of the first link.
+    Duct,
+    /// An ear changes a duct.
+    OtherDuct,
+    /// A session that is added to a report counts one switch more for its first duct.
+    Report,
+    /// One that is refused is counted.
+    RefusedReport,
+    /// Adding a session to a report changes its tree 3.
+    Added,
     /// The number behind a walk changes.
     Rest,
     /// The number behind the zones changes.
@@ -46,6 +59,9 @@ const UNWRITTEN: usize = usize::MAX / 3;
 pub struct Side<M> {
     pub memory: M,
     lent: Lent<u16>,
+    links: Lent<Record>,
+    /// What the byte behind the duct of a link that is lent holds.
+    unused: u8,
     out: Lent<u16>,
     value: Lent<u16>,
     accepted: Lent<usize>,
@@ -55,18 +71,23 @@ impl<M: Memory> Side<M> {
     pub fn new(memory: M, guards: usize, mark: u16, nowhere: bool) -> Side<M> {
         let lent = || Lent::new(guards, mark, nowhere);
         let accepted = Lent::new(guards, mark.into(), nowhere);
-        Side { memory, lent: lent(), out: lent(), value: lent(), accepted }
+        let unused = mark as u8;
+        let links = Lent::new(guards, Record::of(&Link { a: mark, b: mark, duct: unused }, unused), nowhere);
+        Side { memory, lent: lent(), links, unused, out: lent(), value: lent(), accepted }
     }
 
     /// Makes a call; the slice lent for writing, and the number that a call may write, hold the start of `filler`.
     pub fn make(&mut self, call: &Call, filler: &[u16]) -> Refusal {
+        let unused = self.unused;
         self.lent.fill(call.lent().iter().copied());
+        self.links.fill(call.links().iter().map(|link| Record::of(link, unused)));
         self.out.fill(filler[..call.room()].iter().copied());
         self.value.fill(filler[..1].iter().copied());
         self.accepted.fill(std::iter::once(UNWRITTEN));
         call.archive(
-            &mut self.memory.parts(),
+            self.memory.both(),
             self.lent.lend(),
+            self.links.lend(),
             self.out.lend(),
             &mut self.value.lend()[0],
             &mut self.accepted.lend()[0],
@@ -93,7 +114,8 @@ impl<M: Memory> Side<M> {
         let value = self.value.get()[0];
         Ok(match call {
             Call::Clear | Call::Ears(_) | Call::Close | Call::BringOver => Vec::new(),
-            Call::Load(..) => {
+            Call::ReportBegin | Call::ReportAdd => Vec::new(),
+            Call::Load(_) => {
                 let [_, n, m, ..] = self.memory.parts().numbers;
                 vec![*n, *m]
             }
@@ -122,13 +144,22 @@ impl<M: Memory> Side<M> {
     }
 
     /// Nothing changed outside what is lent, nothing that is lent for reading, and by a refusal nothing at all, but the
-    /// count of a list and by the ears accepted; the rest of a slice is left. `before` is the session as it was.
-    pub fn check(&mut self, call: &Call, filler: &[u16], before: &Session, refusal: Refusal) -> Result<(), Finding> {
+    /// count of a list and by the ears accepted; the rest of a slice is left, and a report by all calls but its own. `before`
+    /// has session and report as they were.
+    pub fn check(
+        &mut self,
+        call: &Call,
+        filler: &[u16],
+        (before, report): (&Session, &Report),
+        refusal: Refusal,
+    ) -> Result<(), Finding> {
         let lent = [&self.lent, &self.out, &self.value];
-        if !self.memory.is_guarded() || !lent.iter().all(|lent| lent.is_guarded()) || !self.accepted.is_guarded() {
+        let others = self.links.is_guarded() && self.accepted.is_guarded();
+        if !self.memory.is_guarded() || !lent.iter().all(|lent| lent.is_guarded()) || !others {
             return Finding::of(Kind::Outside, "memory that was not lent has changed");
         }
-        if self.lent.get() != call.lent() {
+        let links = call.links().iter().map(|link| Record::of(link, self.unused));
+        if self.lent.get() != call.lent() || !self.links.get().iter().copied().eq(links) {
             return Finding::of(Kind::Changed, "the numbers lent for reading have changed");
         }
         let written = self.written(call, refusal);
@@ -143,6 +174,9 @@ impl<M: Memory> Side<M> {
         if nothing && (!self.memory.holds(before) || self.value.get()[0] != filler[0]) {
             return Finding::of(Kind::Changed, "a refusal has changed the session or an output");
         }
+        if (refusal.number != 0 || !call.has_report()) && !self.memory.holds_report(report) {
+            return Finding::of(Kind::Changed, "a refusal, or a call that is lent no report, has changed the report");
+        }
         Ok(())
     }
 
@@ -154,6 +188,12 @@ impl<M: Memory> Side<M> {
             (Fault::Session, _) if !granted => self.memory.parts().tree3[1023] ^= 1,
             (Fault::Behind, _) => *self.memory.behind() ^= 1,
             (Fault::Lent, Call::Ear(ear)) if !ear.is_empty() => self.lent.lend()[0] ^= 1,
+            (Fault::LentLink, Call::Load(site)) if !site.links.is_empty() => self.links.lend()[0].unused ^= 1,
+            (Fault::Duct, Call::Load(_)) if granted => self.memory.parts().ducts[0] ^= 1,
+            (Fault::OtherDuct, Call::Ear(_)) if granted => self.memory.parts().ducts[4095] ^= 1,
+            (Fault::Report, Call::ReportAdd) if granted => self.memory.both().1.two[1] += 1,
+            (Fault::RefusedReport, Call::ReportAdd) if !granted => *self.memory.both().1.sessions ^= 1,
+            (Fault::Added, Call::ReportAdd) if granted => self.memory.parts().tree3[0] ^= 1,
             (Fault::Rest, Call::Walk { room, .. }) | (Fault::RestOfZones, Call::Zones { room, .. })
                 if granted && *room > written =>
             {

@@ -1,10 +1,10 @@
-//! One session of the archive, step by step: two copies of its memory, laid out in two ways, and the second program.
-//! Each step is checked; the first that shows a fault is told.
+//! One session of the archive and a report beside it, step by step: two copies of their memory, laid out in two ways, and
+//! the second program. Each step is checked; the first that shows a fault is told.
 
 use std::fmt::{Display, Formatter, Result as Written};
 
 use super::call::{Answer, Call};
-use super::known::wrong_field;
+use super::known::{wrong_field, wrong_report};
 use super::lengths::make_wrong;
 use super::lent::{Apart, Lengths, Memory, Whole, RIGHT};
 use super::memory::{leaves, may_answer, with_leftover_taken};
@@ -12,6 +12,7 @@ use super::overwrite::overwrite;
 use super::side::{Fault, Side};
 use crate::archive::{self, CLOSED, OPEN};
 use crate::brute;
+use crate::ducts::Report;
 use crate::seen::Crossed;
 use crate::session::Session;
 use crate::thirds::Rule;
@@ -28,6 +29,8 @@ pub enum Step {
     Overwrite(u64),
     /// Tree 3 of a closed session, in memory and in the second program, is set as before document 02, Note 6.
     SetBack,
+    /// The report's memory is set to this.
+    SetReport(Box<archive::Report>),
     /// The call is made on a copy of the session with arrays of these lengths.
     Lengths(Call, Lengths),
 }
@@ -72,8 +75,11 @@ pub enum Done {
         leftover: usize,
         crossed: Option<Crossed>,
         brought: bool,
+        /// Whether the report has other sums of switches that lose two walks, and of those that lose all three.
+        lost: [bool; 2],
     },
     Overwritten,
+    SetReport,
     /// Whether tree 3 was another one.
     SetBack(bool),
     Lengths,
@@ -82,8 +88,9 @@ pub enum Done {
 pub struct Trial {
     whole: Side<Whole>,
     apart: Side<Apart>,
-    /// The session as the last step left it.
+    /// Session and report as the last step left them.
     before: Box<archive::Session>,
+    report: Box<archive::Report>,
     /// The second program's session, while it knows what the memory holds.
     second: Option<Session>,
     plant: Plant,
@@ -100,6 +107,7 @@ impl Trial {
             whole: Side::new(Whole::new(32, 0xA5A5), 32, 0xA5A5, false),
             apart: Side::new(Apart::new(33, 0x3C, RIGHT), 33, 0x3C3C, true),
             before: Box::new(archive::Session::EMPTY),
+            report: Box::new(archive::Report::EMPTY),
             second: Some(Session::Empty),
             plant,
             fault,
@@ -115,24 +123,36 @@ impl Trial {
         &self.before
     }
 
+    pub fn report(&self) -> &archive::Report {
+        &self.report
+    }
+
     pub fn step(&mut self, step: &Step) -> Result<Done, Finding> {
         match step {
             Step::Call(call) => {
                 let known = self.second.is_some();
                 let leftover = if call.is_empty_ear() { with_leftover_taken(&self.before).0 } else { 0 };
                 let (n, tree3) = (self.before.n, self.before.tree3);
+                let [two, three] = [self.report.two, self.report.three];
                 let answer = self.call(call)?;
                 let crossed = self.crossed(call, &answer);
                 let brought = tree3 != self.before.tree3;
-                Ok(Done::Answered { answer, known, n, leftover, crossed, brought })
+                let lost = [two != self.report.two, three != self.report.three];
+                Ok(Done::Answered { answer, known, n, leftover, crossed, brought, lost })
             }
             Step::Overwrite(seed) => {
                 self.overwrite(*seed);
                 Ok(Done::Overwritten)
             }
             Step::SetBack => Ok(Done::SetBack(self.set_back())),
+            Step::SetReport(report) => {
+                self.report.clone_from(report);
+                self.whole.memory.set_report(report);
+                self.apart.memory.set_report(report);
+                Ok(Done::SetReport)
+            }
             Step::Lengths(call, lengths) => {
-                make_wrong(&self.before, call, *lengths, &self.filler, self.fault)?;
+                make_wrong((&self.before, &self.report), call, *lengths, &self.filler, self.fault)?;
                 Ok(Done::Lengths)
             }
         }
@@ -173,21 +193,26 @@ impl Trial {
     }
 
     fn call(&mut self, call: &Call) -> Result<Answer, Finding> {
-        let Trial { whole, apart, before, fault, filler, .. } = self;
+        let Trial { whole, apart, before, report, fault, filler, .. } = self;
         let made = whole.make(call, filler);
         whole.spoil(*fault, false, call, made);
-        whole.check(call, filler, before, made)?;
+        whole.check(call, filler, (before, report), made)?;
         let copied = apart.make(call, &filler[1..]);
         apart.spoil(*fault, true, call, copied);
-        apart.check(call, &filler[1..], before, copied)?;
+        apart.check(call, &filler[1..], (before, report), copied)?;
         let answer = whole.answer(call, made);
         let same = made == copied && answer == apart.answer(call, copied);
-        if !same || !apart.memory.holds(whole.memory.session()) {
-            return Finding::of(Kind::Copies, "the same call on two equal sessions differs");
+        let same_memory =
+            apart.memory.holds(whole.memory.session()) && apart.memory.holds_report(whole.memory.report());
+        if !same || !same_memory {
+            return Finding::of(Kind::Copies, "the same call on two equal sessions and reports differs");
         }
         self.judge(call, &answer)?;
         if answer.may_change() {
             self.before.numbers_mut().copy_from_slice(self.whole.memory.session().numbers());
+        }
+        if call.has_report() {
+            *self.report = self.whole.memory.report().clone();
         }
         Ok(answer)
     }
@@ -201,18 +226,28 @@ impl Trial {
         if let Call::Clear = call {
             self.second = Some(Session::Empty);
         }
+        let mut report = self.report.second();
         let Some(second) = &mut self.second else {
-            if !may_answer(call, &self.before, answer) {
+            if !may_answer(call, &self.before, &self.report, answer) {
                 return Finding::of(Kind::Answer, &format!("this answer may not come: {}", Told(answer)));
             }
-            return Ok(());
+            return self.judge_report(call, answer, None);
         };
-        let expected = call.second(second, self.plant);
+        let expected = call.second(second, &mut report, self.plant);
         if let Some(what) = difference(call, &self.before, answer, &expected) {
             return Finding::of(Kind::Answer, &what);
         }
         match answer.may_change().then(|| wrong_field(call, after, second)).flatten() {
             Some(field) => Finding::of(Kind::Field, &format!("the session differs in {field}")),
+            None => self.judge_report(call, answer, Some(&report)),
+        }
+    }
+
+    /// Holds the report after a granted call against the second program's, where that knows the session.
+    fn judge_report(&self, call: &Call, answer: &Answer, second: Option<&Report>) -> Result<(), Finding> {
+        let granted = call.has_report() && answer.values.is_ok();
+        match granted.then(|| wrong_report(call, &self.report, self.whole.memory.report(), second)).flatten() {
+            Some(what) => Finding::of(Kind::Field, &format!("the report differs in {what}")),
             None => Ok(()),
         }
     }
@@ -252,6 +287,7 @@ impl Display for Step {
             Step::Call(call) => write!(out, "{call}"),
             Step::Overwrite(seed) => write!(out, "(the session is overwritten by seed {seed})"),
             Step::SetBack => write!(out, "(tree 3 is set to the lowest numbers)"),
+            Step::SetReport(report) => write!(out, "(the report is set to {} sessions and some sums)", report.sessions),
             Step::Lengths(call, lengths) => write!(out, "{call} (with arrays of lengths {lengths:?})"),
         }
     }

@@ -2,7 +2,9 @@
 
 use std::collections::HashSet;
 
-use second_reading::plan::{mix, Plan, Shape, ShortEars};
+use second_reading::lines::link_line;
+use second_reading::network::Link;
+use second_reading::plan::{mix, Ducts, Plan, Shape, ShortEars};
 use second_reading::random::Random;
 use second_reading::session::{list_of, Session};
 use second_reading::Plant;
@@ -76,6 +78,7 @@ fn mixed(switches: usize, links: usize) -> Shape {
         hubs: 0,
         cubic: false,
         short_ears: ShortEars::Anywhere,
+        ducts: Ducts::None,
         tidy: false,
     }
 }
@@ -100,7 +103,8 @@ fn low_hubs() -> Plan {
 fn refused_at_its_end(times: usize) -> Plan {
     let mut random = Random::new(1, 14);
     let mut plan = Plan::of(&mixed(1024, 4096 - 999), &mut random);
-    let joined: HashSet<(u16, u16)> = plan.site.links.iter().flat_map(|&(a, b)| [(a, b), (b, a)]).collect();
+    let joined: HashSet<(u16, u16)> =
+        plan.site.links.iter().flat_map(|link| [(link.a, link.b), (link.b, link.a)]).collect();
     let mut left: Vec<u16> = (1..1024).collect();
     let mut walk = vec![0];
     while walk.len() < 1000 {
@@ -109,7 +113,7 @@ fn refused_at_its_end(times: usize) -> Plan {
             walk.push(left.swap_remove(at));
         }
     }
-    plan.site.links.extend(walk.windows(2).map(|two| (two[0], two[1])));
+    plan.site.links.extend(walk.windows(2).map(|two| Link::from((two[0], two[1]))));
     plan.ears.extend(vec![walk; times]);
     plan
 }
@@ -119,8 +123,8 @@ pub fn cuts_of(case: &Case) -> [String; 4] {
     let site = &case.plan.site;
     let mut script =
         format!("(net {} (root {}) (first {}) (last {}))\n", site.switches, site.root, site.first, site.last);
-    for (a, b) in &site.links {
-        script += &format!("(link {a} {b})\n");
+    for link in &site.links {
+        script += &(link_line(link) + "\n");
     }
     script += "(open)\n";
     let open = script.clone();
