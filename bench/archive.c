@@ -1,5 +1,5 @@
 /* Makes the calls of a plan through include/threeways.h: load, its list and its ears, close, bring_over, parent and walk of every switch,
- * zones, clear.
+ * zones, report_begin, report_add, clear.
  * Call: archive calls PLAN or archive stack PLAN. A line for each call: name, refusal (0: none), length, bytes of stack (calls: 0); the name
  * of zones that are given has their sizes. */
 #include <stdio.h>
@@ -15,11 +15,13 @@ enum { LINE = 6146, MAX_EARS = 4096, LIST = 20480, ANY = 65535, STACK = 1 << 16,
 #define PAINT UINT64_C(0xa5a5a5a5a5a5a5a5)
 
 /* The plan: net has N, root, first and last; ear i stands in the list from start[i] to start[i + 1], its count first. */
-static uint16_t net[4], links[2 * THREEWAYS_MAX_LINKS], list[LIST];
+static uint16_t net[4], list[LIST];
+static struct threeways_link links[THREEWAYS_MAX_LINKS];
 static size_t links_count, ears, start[MAX_EARS + 1];
 
 /* The session, what a call is given beside it, and what it gives. */
 static struct threeways_session session;
+static struct threeways_report ducts;
 static const uint16_t *ear;
 static size_t ear_count, accepted, room = THREEWAYS_MAX_SWITCHES;
 static uint16_t switch_number, tree, sizes[3], result, out[ANY];
@@ -48,6 +50,8 @@ CALL(bring_over, threeways_bring_over(&session))
 CALL(parent, threeways_parent(&session, switch_number, tree, &result))
 CALL(walk, threeways_walk(&session, switch_number, tree, out, room, &result))
 CALL(zones, threeways_zones(&session, sizes[0], sizes[1], sizes[2], out, room))
+CALL(report_begin, threeways_report_begin(&ducts))
+CALL(report_add, threeways_report_add(&ducts, &session))
 
 /* Writes the numbers of a line, and gives their count. */
 static size_t read_numbers(const char *line, uint16_t *to, size_t most)
@@ -66,6 +70,19 @@ static size_t read_numbers(const char *line, uint16_t *to, size_t most)
 
 static int is(const char *line, const char *word) { return strncmp(line, word, strlen(word)) == 0; }
 
+/* Takes the numbers of a link: two, and its duct if it has one. */
+static void read_link(const char *line)
+{
+    uint16_t numbers[3] = { 0, 0, 0 };
+    if (links_count == THREEWAYS_MAX_LINKS)
+        fail("the plan has too many links");
+    if (read_numbers(line, numbers, 3) < 2 || numbers[2] > UINT8_MAX)
+        fail("a link line has two numbers, and a duct up to 255");
+    links[links_count].a = numbers[0];
+    links[links_count].b = numbers[1];
+    links[links_count++].duct = (uint8_t)numbers[2];
+}
+
 /* Takes a line of the plan. Lines of open, close and walk are passed over: every plan is loaded, closed and asked in the same way. */
 static void read_line(const char *line)
 {
@@ -73,10 +90,7 @@ static void read_line(const char *line)
         if (read_numbers(line, net, 4) != 4)
             fail("a net line has four numbers");
     } else if (is(line, "(link ")) {
-        size_t left = 2 * THREEWAYS_MAX_LINKS - links_count;
-        if (read_numbers(line, links + links_count, left < 2 ? left : 2) != 2)
-            fail("a link line has two numbers");
-        links_count += 2;
+        read_link(line);
     } else if (is(line, "(ear")) {
         uint16_t *count = list + start[ears];
         if (ears == MAX_EARS || start[ears] == LIST)
@@ -220,7 +234,8 @@ static void ask_all_zones(unsigned n)
 }
 
 /* A walk that never meets the root, as far as 16 bits count, with room for a network's walks and with room for all of it, zones of as many
- * switches, and bringing over with as many links: the same on every network, so it is asked on the smallest alone. */
+ * switches, bringing over with as many links, and a report of 1,024 switches whose walks never meet the root: the same on every network,
+ * so it is asked on the smallest alone. */
 static void ask_overwritten(void)
 {
     session.n = session.root = ANY;
@@ -237,6 +252,8 @@ static void ask_overwritten(void)
     report("overwritten-zones", refusal.number == 0 ? session.n : 0, bytes);
     session.m = ANY;
     report("overwritten-bring_over", 0, make(measured_bring_over));
+    session.n = THREEWAYS_MAX_SWITCHES;
+    report("overwritten-report_add", session.n, make(measured_report_add));
 }
 
 int main(int count, char **words)
@@ -248,7 +265,7 @@ int main(int count, char **words)
         make_stack();
         depth(note_above);
     }
-    report("load", links_count / 2, make(measured_load));
+    report("load", links_count, make(measured_load));
     offer_list();
     offer_ears();
     report("close", 0, make(measured_close));
@@ -257,6 +274,8 @@ int main(int count, char **words)
         for (uint16_t s = 0; s < net[0]; s++)
             ask(s, t);
     ask_all_zones(net[0]);
+    report("report_begin", 0, make(measured_report_begin));
+    report("report_add", net[0], make(measured_report_add));
     if (session.stage == THREEWAYS_CLOSED && session.n == THREEWAYS_MIN_SWITCHES)
         ask_overwritten();
     report("clear", 0, make(measured_clear));
