@@ -149,7 +149,7 @@ pub fn clear(
         };
     }
     let mut none = [0u16; 0];
-    let state = loading::clear(
+    let cleared = loading::clear(
         links,
         ducts,
         used,
@@ -160,7 +160,7 @@ pub fn clear(
         tree3,
         &mut none,
     );
-    memory::put_state(state, stage, n, m, root, first, last, longs, born);
+    memory::put_state(cleared, stage, n, m, root, first, last, longs, born);
     Refusal {
         number: 0,
         place: 0,
