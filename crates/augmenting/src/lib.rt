@@ -1,5 +1,7 @@
 // The search for an augmenting path, and the matching led along it (document 02, Note 8): Rattle.disjoint.specs.Matching on lent slices.
 // Link tables are plain numbers, two for each link, with their index of half-links; what a search enters is marked, and is its queue.
+#![tactic(auto)]
+
 ghost use Rattle.std.specs.Prelude.{◌≡◌, not, ◌&&◌, suc, ◌*◌, ◌≤◌, ◌<◌, ltb};
 ghost use Rattle.mondschein.specs.Network.{at, size};
 ghost use Rattle.network.specs.Load.{table_of};
@@ -234,7 +236,7 @@ fn attempt(
 }
 
 // What the searches ended with: whether one did not come to t, and its marks.
-#[derive(Drop)]
+#[derive(Clone, Copy)]
 pub struct Tried {
     pub short: bool,
     pub mark: [u8; 1024],

@@ -1,5 +1,7 @@
 // A block of the input, and the end of the input: the dialogue takes the lines, and the replies are written on standard output.
 // What is known afterwards is promised where they were written; a write that fails is told.
+#![tactic(auto)]
+
 ghost use Rattle.std.specs.Prelude.{◌≡◌, true, ◌≤◌, length};
 ghost use Rattle.in_place.specs.InPlace.{session_in, SizedAs, IndexedIn};
 ghost use Rattle.collect.specs.Answering.{Keeps};
@@ -10,7 +12,7 @@ use collect::Reader;
 use in_place::State;
 
 // What is known after a block, the state of the session, and whether its replies were written.
-#[derive(Drop)]
+#[derive(Clone, Copy)]
 pub struct Known {
     pub reader: Reader,
     pub state: State,
@@ -68,7 +70,7 @@ pub fn take_block(
 }
 
 // How a run ends: with the input, where no more is read, or where a read or a write failed.
-#[derive(Drop)]
+#[derive(Clone, Copy)]
 pub enum End {
     Input,
     Over,
@@ -77,7 +79,7 @@ pub enum End {
 }
 
 // What is known where a run ends, the state of the session, and how it ends.
-#[derive(Drop)]
+#[derive(Clone, Copy)]
 pub struct Ended {
     pub reader: Reader,
     pub state: State,

@@ -1,5 +1,7 @@
 // Bringing over, in place: sets tree 3 of a closed session by the rule of document 02, Note 6, over what the session holds beside its arrays
 // and the arrays that the rule asks for, lent.
+#![tactic(auto)]
+
 ghost use Rattle.std.specs.Prelude.{◌≡◌};
 ghost use Rattle.in_place.specs.declared.Stage.TheVariants.{Closed};
 ghost use Rattle.in_place.specs.InPlace.{SizedForThird};
@@ -8,7 +10,7 @@ ghost use Rattle.bringing.specs.Bringing.{BringsIn};
 use in_place::{Stage, State};
 
 // The answer to bringing over: done, or a refusal's number and place.
-#[derive(Drop)]
+#[derive(Clone, Copy)]
 pub enum BroughtOver {
     Done,
     Refused(u8, u16),

@@ -1,5 +1,7 @@
 // One call or walk that a line asks of the session, in place, with its reply and what is known after both.
 // The session's arrays are lent; a reply is written at the start of a slice.
+#![tactic(auto)]
+
 ghost use Rattle.std.specs.Prelude.{◌≡◌, ◌≤◌, length, take};
 ghost use Rattle.mondschein.specs.Network.{at};
 ghost use Rattle.network.specs.Load.{load_answer};
@@ -68,7 +70,7 @@ fn reply_to_walk(answer: Walk, switch: u16, tree: u16, route: &[u16], out: &mut 
 }
 
 // What is known after a line has what it asks of the session, the state of the session there, and the count of the bytes of its reply.
-#[derive(Drop)]
+#[derive(Clone, Copy)]
 pub struct Called {
     pub reader: Reader,
     pub state: State,

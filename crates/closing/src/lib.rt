@@ -1,5 +1,7 @@
 // What close asks on lent slices: check 23.
 // A mark past the end of the used links reads as 0.
+#![tactic(auto)]
+
 ghost use Rattle.std.specs.Prelude.{◌≡◌, ◌≤◌, length};
 ghost use Rattle.mondschein.specs.Judge.{closing};
 ghost use Rattle.network.specs.Load.{table_of};
@@ -7,7 +9,7 @@ ghost use Rattle.rows.specs.Rows.{marked};
 ghost use Rattle.closing.specs.Closing.{close_answer};
 
 // The answer to close: closed, or a refusal's number and place.
-#[derive(Drop)]
+#[derive(Clone, Copy)]
 pub enum Close {
     Closed,
     Refused(u8, u16),

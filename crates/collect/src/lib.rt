@@ -1,5 +1,7 @@
 // A line of the dialogue without the session: what it does to the network that is collected, what it asks of the session, and else its
 // reply. The collected links stand at the start of a slice, two numbers each, their ducts in another; a reply is written at the start of a third.
+#![tactic(auto)]
+
 ghost use Rattle.std.specs.Prelude.{◌≡◌, true, false, ◌≤◌, length};
 ghost use Rattle.lines.specs.declared.Form.TheVariants as Form·;
 ghost use Rattle.replies.specs.Replies.{unread, reply};
@@ -10,7 +12,7 @@ use in_place::Session;
 use lines::Form;
 
 // What is collected: the numbers of the last net line, and the count of links.
-#[derive(Drop)]
+#[derive(Clone, Copy)]
 pub struct Kept {
     pub n: u16,
     pub root: u16,
@@ -35,7 +37,7 @@ impl Kept {
 }
 
 // A call that gives another session; of an ear the count of its numbers.
-#[derive(Drop)]
+#[derive(Clone, Copy)]
 pub enum Call {
     Open,
     Ear(u16),
@@ -44,7 +46,7 @@ pub enum Call {
 }
 
 // What a line asks of the session: nothing, the walk of a switch in a tree, or a call.
-#[derive(Drop)]
+#[derive(Clone, Copy)]
 pub enum Request {
     Nothing,
     Walk(u16, u16),
@@ -53,7 +55,7 @@ pub enum Request {
 
 // What a line leads to: what is collected after it, what it asks of the session, the count of the bytes of its reply, and whether no
 // more is read. A line that asks something of the session has its reply from there.
-#[derive(Drop)]
+#[derive(Clone, Copy)]
 struct Answered {
     kept: Kept,
     request: Request,
@@ -177,7 +179,7 @@ fn answer(
 
 // What is known between two bytes of an input: what is collected, the number of the line that comes, the count of its bytes so far,
 // and whether a line stopped the dialogue.
-#[derive(Drop)]
+#[derive(Clone, Copy)]
 pub struct Reader {
     pub kept: Kept,
     pub number: u32,
@@ -211,7 +213,7 @@ pub fn over(r: Reader) -> bool
 }
 
 // What is known after a line, what the line asks of the session, and the count of the bytes of its own reply.
-#[derive(Drop)]
+#[derive(Clone, Copy)]
 pub struct Ending {
     pub reader: Reader,
     pub request: Request,

@@ -1,5 +1,7 @@
 // The zones of document 02, Note 4, on lent slices: the ear at which the order is cut, and the zones by switch number.
 // The order is a slice that holds nothing else; births are those of all switches, by number.
+#![tactic(auto)]
+
 ghost use Rattle.std.specs.Prelude.{◌≡◌, ◌-◌, ◌≤◌, length, replicate};
 ghost use Rattle.mondschein.specs.Network.{at};
 ghost use Rattle.rows.specs.Rows.{assigned};
@@ -12,7 +14,7 @@ use network::MAX_SWITCHES;
 const BIRTHS: usize = (MAX_SWITCHES as usize) + 1;
 
 // An ear, how many switches are born before it, and how many in it.
-#[derive(Drop)]
+#[derive(Clone, Copy)]
 struct Found {
     ear: u16,
     before: usize,
@@ -20,7 +22,7 @@ struct Found {
 }
 
 // The cut of the order: the ear, the size of zone 1, how many of the ear's switches zones 1 and 2 take, and how many are left for zone 3.
-#[derive(Drop)]
+#[derive(Clone, Copy)]
 struct Cut {
     ear: u16,
     one: usize,
@@ -30,7 +32,7 @@ struct Cut {
 
 // Along the order: how many older switches are passed, and how many of the ear's; how many older switches zone 1 has, and how many of the
 // ear's. The shares are known from the first switch of the ear on; until then zone 1 has older switches up to its size.
-#[derive(Drop)]
+#[derive(Clone, Copy)]
 struct Passed {
     older: usize,
     new: usize,

@@ -1,5 +1,7 @@
 // The lines of a block: each is held, ended, and has what it asks of the session; their replies stand one after another in a slice.
 // The collected links stand at the start of another, two numbers each, and their ducts in a third; row is the session's row of ducts.
+#![tactic(auto)]
+
 ghost use Rattle.std.specs.Prelude.{◌≡◌, ◌≤◌, ◌<◌, length, take};
 ghost use Rattle.in_place.specs.InPlace.{session_in, SizedAs, IndexedIn};
 ghost use Rattle.collect.specs.Answering.{Keeps};
@@ -18,7 +20,7 @@ pub fn reply(out: &[u8], written: usize) -> &[u8]
 
 // What is known where the lines of a block have been taken, the state of the session there, the place in the block, and the count of
 // the bytes of their replies.
-#[derive(Drop)]
+#[derive(Clone, Copy)]
 pub struct Taken {
     pub reader: Reader,
     pub state: State,
@@ -102,7 +104,7 @@ pub fn take_lines(
 }
 
 // What is known at the end of the input, the state of the session there, and the count of the bytes of the last reply.
-#[derive(Drop)]
+#[derive(Clone, Copy)]
 pub struct Finished {
     pub reader: Reader,
     pub state: State,

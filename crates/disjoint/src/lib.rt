@@ -1,2 +1,3 @@
 // Three routes between two switches, document 02, Note 8: what they are and how they are found in specs/, the proofs in proofs/.
 // This crate has no code of its own.
+#![tactic(auto)]

@@ -2,6 +2,8 @@
 // ears, through the calls. Each answer is written as the lines of document 01 write it, that of parent as (parent switch tree entry), that of zones
 // as (zones sizes (zone of each switch)), that of routes as (routes from to (counts) (walks)) or (parted from to things), that of a list as (accepted
 // ears), that of bringing over as (brought over).
+#![tactic(auto)]
+
 use bringing::BroughtOver;
 use closing::Close;
 use judge::Ear;

@@ -1,5 +1,7 @@
 // What a session is, and ear, close, parent and walk in place: over what it holds beside its arrays, by value, and the arrays, lent.
 // An index of the links may be lent beside them; a slice of another length than an index means that there is none.
+#![tactic(auto)]
+
 ghost use Rattle.std.specs.Prelude.{◌≡◌, eqb, length};
 ghost use Rattle.mondschein.specs.EmptyEar.{is_empty};
 ghost use Rattle.shape.specs.declared.Ear.TheVariants as Ear·;
@@ -12,7 +14,7 @@ use judge::Ear;
 use network::{Load, MAX_LINKS, MAX_SWITCHES};
 use walks::{Parent, Walk};
 
-#[derive(Drop)]
+#[derive(Clone, Copy)]
 pub enum Stage {
     Empty,
     Open,
@@ -21,7 +23,7 @@ pub enum Stage {
 
 // The network (its table flat, as lent) with the ducts of its links, used links (1), the count of long ears, births by long ear (0 unborn), the order with its
 // count `born`, and the three parent tables.
-#[derive(Drop)]
+#[derive(Clone, Copy)]
 pub struct Session {
     pub stage: Stage,
     pub n: u16,
@@ -76,7 +78,7 @@ impl Session {
 }
 
 // What a session holds beside its arrays.
-#[derive(Drop)]
+#[derive(Clone, Copy)]
 pub struct State {
     pub stage: Stage,
     pub n: u16,
@@ -107,21 +109,21 @@ impl State {
 }
 
 // What load answers, and the state after it.
-#[derive(Drop)]
+#[derive(Clone, Copy)]
 pub struct LoadedIn {
     pub answer: Load,
     pub state: State,
 }
 
 // What an ear is answered, and the state after it.
-#[derive(Drop)]
+#[derive(Clone, Copy)]
 pub struct OfferedIn {
     pub answer: Ear,
     pub state: State,
 }
 
 // What close answers, and the state after it.
-#[derive(Drop)]
+#[derive(Clone, Copy)]
 pub struct ClosedIn {
     pub answer: Close,
     pub state: State,

@@ -1,5 +1,7 @@
 // One ear against lent tables: its shape, then the first offending index of each check from 12.
 // Births and used links are lent as marks, 0 for unborn and unused.
+#![tactic(auto)]
+
 ghost use Rattle.std.specs.Prelude.{◌≡◌, false, not, ◌&&◌, ◌≤◌, length};
 ghost use Rattle.mondschein.specs.Network.{low, at, is_new};
 ghost use Rattle.mondschein.specs.Judge.{last_misplaced, verdict};

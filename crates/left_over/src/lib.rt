@@ -1,5 +1,7 @@
 // The leftover links of an empty ear (Note 2 of document 02) on lent slices: what it marks as used, by one scan of the links.
 // A number past the end of a table reads as 0, and a mark past it changes nothing.
+#![tactic(auto)]
+
 ghost use Rattle.std.specs.Prelude.{◌≡◌, not, ◌&&◌, cond, set};
 ghost use Rattle.mondschein.specs.Network.{at};
 ghost use Rattle.network.specs.Load.{table_of};

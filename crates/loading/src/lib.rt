@@ -1,5 +1,7 @@
 // Load and clear in place: over the state of a session, by value, and its arrays, lent, with the index of its links.
 // What a session is, and what the calls in place promise by it, stands in in_place.
+#![tactic(auto)]
+
 ghost use Rattle.std.specs.Prelude.{◌≡◌, ◌≤◌, length};
 ghost use Rattle.mondschein.specs.Judge.{wrong_size, loading};
 ghost use Rattle.mondschein.specs.Outcome.{settle};

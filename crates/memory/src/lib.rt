@@ -1,5 +1,7 @@
 // The memory of struct threeways_session (include/threeways.h): the numbers of a state, the lengths of the arrays, and what a call gives back.
 // What a call does to that memory is defined in specs/Memory.antt, for any contents.
+#![tactic(auto)]
+
 ghost use Rattle.std.specs.Prelude.{◌≡◌};
 ghost use Rattle.memory.specs.Memory.{numbers_by, stage_of, stage_number, state_of, numbers_of, wrong_lengths};
 
@@ -24,7 +26,7 @@ pub const LENGTHS: u8 = 255;
 
 // The number and the place of a refusal; number 0 where the call succeeded.
 #[repr(C)]
-#[derive(Drop)]
+#[derive(Clone, Copy)]
 pub struct Refusal {
     pub number: u8,
     pub place: u16,

@@ -1,5 +1,7 @@
 // Load, from a flat table of link records, and clear over the memory of struct threeways_session (include/threeways.h).
 // Each is the call in place, for any contents of that memory; arrays of other lengths than the struct's are refused with 255.
+#![tactic(auto)]
+
 ghost use Rattle.std.specs.Prelude.{take};
 ghost use Rattle.network.specs.Load.{network_of};
 ghost use Rattle.records.specs.Records.{numbers_of};

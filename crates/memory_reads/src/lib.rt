@@ -1,5 +1,7 @@
 // The calls that read a session, parent, walk and zones, over the memory of struct threeways_session (include/threeways.h), lent part by part.
 // Each is the call in place, for any contents of that memory; arrays of other lengths than the struct's are refused with 255.
+#![tactic(auto)]
+
 ghost use Rattle.memory.specs.Memory.{numbers_by, memory_by};
 ghost use Rattle.memory.specs.Calls.{Tells, WritesWalk, WritesZones};
 

@@ -1,5 +1,7 @@
 // The report of document 02, Note 7, over the memory of struct threeways_report and struct threeways_session (include/threeways.h).
 // Begun empty, it adds the session that the memory means, for any contents of both; rows of other lengths are refused with 255.
+#![tactic(auto)]
+
 ghost use Rattle.std.specs.Prelude.{◌≡◌, length, replicate};
 ghost use Rattle.memory.specs.Memory.{numbers_by, memory_by};
 ghost use Rattle.report.specs.Report.{report_of};

@@ -1,5 +1,7 @@
 // Three routes between two switches, document 02, Note 8, over the memory of struct threeways_session (include/threeways.h), lent part by part.
 // The answer is told in plain numbers, struct threeways_between; links of another length than the struct's are refused with 255.
+#![tactic(auto)]
+
 ghost use Rattle.std.specs.Prelude.{◌≡◌};
 ghost use Rattle.routing.specs.declared.Between.TheVariants.{Parted};
 ghost use Rattle.routing.specs.Answers.{thing_of, reply_of};
@@ -17,7 +19,7 @@ pub const LINK: u16 = 2;
 // The refusal's number and place, 0 and 0 where there is an answer; the counts of the three walks, or 0; how many things part the two, and
 // their kinds and numbers, or 0.
 #[repr(C)]
-#[derive(Drop)]
+#[derive(Clone, Copy)]
 pub struct Routed {
     pub number: u8,
     pub place: u16,
@@ -32,7 +34,7 @@ pub struct Routed {
 }
 
 // A thing in numbers: its kind, and the switch or the index of the link.
-#[derive(Drop)]
+#[derive(Clone, Copy)]
 struct Part {
     kind: u16,
     thing: u16,

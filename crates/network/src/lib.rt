@@ -1,5 +1,7 @@
 // Link tables lent as plain numbers, two for each link: the lowest link between two switches, and checks 2 to 6 of loading.
 // A table of 2 M or 2 M + 1 numbers has M links.
+#![tactic(auto)]
+
 ghost use Rattle.std.specs.Prelude.{◌≡◌, [], suc, min, ◌+◌, ◌*◌, ◌/◌, ◌≤◌, ◌<◌, eqb, length};
 ghost use Rattle.mondschein.specs.Network.{low, size, joins, joined, link_of};
 ghost use Rattle.mondschein.specs.Judge.{loading_by, link_too_large, self_link, repeated_link, wrong_names};
@@ -15,7 +17,7 @@ pub const MAX_LINKS: u16 = 4096;
 pub const INDEX_LENGTH: usize = 2 * (MAX_SWITCHES as usize) + 2 * (MAX_LINKS as usize);
 
 // The answer to load: N and M, or a refusal's number and place.
-#[derive(Drop)]
+#[derive(Clone, Copy)]
 pub enum Load {
     Loaded(u16, u16),
     Refused(u8, u16),

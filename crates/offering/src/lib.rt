@@ -1,5 +1,7 @@
 // An ear, and a list of ears, offered to a session in place by a caller that brings no index of the links: one is made where it pays, and
 // for a list once. Each ear of a list is judged by the call that a single ear uses.
+#![tactic(auto)]
+
 ghost use Rattle.std.specs.Prelude.{◌≡◌, ◌<◌, length};
 ghost use Rattle.in_place.specs.InPlace.{IndexedIn, OffersIn};
 ghost use Rattle.offering.specs.declared.EarList.TheVariants as EarList·;
@@ -12,14 +14,14 @@ use judge::Ear;
 const INDEX_PAYS: usize = 32768;
 
 // What a list of ears is answered: how many were accepted, and the number and the place of the refusal of the next, if any.
-#[derive(Drop)]
+#[derive(Clone, Copy)]
 pub enum EarList {
     Accepted(usize),
     Refused(usize, u8, u16),
 }
 
 // What a list of ears is answered, and the state after it.
-#[derive(Drop)]
+#[derive(Clone, Copy)]
 pub struct ListedIn {
     pub answer: EarList,
     pub state: State,
@@ -72,7 +74,7 @@ pub fn ear(
 }
 
 // Where the numbers of an ear of a list begin and end, and where the next ear begins.
-#[derive(Drop)]
+#[derive(Clone, Copy)]
 struct Part {
     start: usize,
     end: usize,

@@ -1,12 +1,14 @@
 // The order of switches on a lent slice, with the insertion of an ear's new switches.
 // The order is kept at the start of an array, with its count.
+#![tactic(auto)]
+
 ghost use Rattle.std.specs.Prelude.{◌≡◌, not, ◌&&◌, ◌++◌, reverse, min, ◌+◌, ◌-◌, ◌≤◌, eqb, ltb, length, take, drop};
 ghost use Rattle.mondschein.specs.Network.{at};
 ghost use Rattle.mondschein.specs.Order.{extend};
 ghost use Rattle.order.specs.Placed.{placed, placed_count, place_in};
 
 // Where the new switches of a later ear go in the order, and whether the ear is written from A to B.
-#[derive(Drop)]
+#[derive(Clone, Copy)]
 pub struct Place {
     pub at: usize,
     pub upward: bool,

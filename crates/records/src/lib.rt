@@ -1,5 +1,7 @@
 // Link records, lent as a slice: document 02, Note 7. They are copied into a flat table, two numbers a link, and a row of ducts beside it.
 // A slice of records is read here alone; the routines take the flat table and the ducts.
+#![tactic(auto)]
+
 ghost use Rattle.std.specs.Prelude.{◌≡◌, ◌+◌, ◌*◌, set};
 ghost use Rattle.records.specs.Records.{flat_with, flat_of, numbers_of};
 
@@ -7,7 +9,7 @@ use network::MAX_LINKS;
 
 // A link record: the two switches that a link joins, and its duct, 0 for none.
 #[repr(C)]
-#[derive(Drop)]
+#[derive(Clone, Copy)]
 pub struct Link {
     pub a: u16,
     pub b: u16,
@@ -15,7 +17,7 @@ pub struct Link {
 }
 
 // A link table: two numbers a link, and beside them the duct of each. What is past the last link is 0.
-#[derive(Drop)]
+#[derive(Clone, Copy)]
 pub struct Flat {
     pub ends: [u16; 2 * (MAX_LINKS as usize)],
     pub ducts: [u8; MAX_LINKS as usize],

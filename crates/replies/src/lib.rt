@@ -1,5 +1,7 @@
 // Lines of threeways: the replies, written into a lent slice.
 // A place is an index into the slice; bytes are written from there on.
+#![tactic(auto)]
+
 ghost use Rattle.std.specs.Prelude.{[], ◌∷◌, map, ◌+◌, ◌*◌, ◌%◌, ◌≤◌, ◌<◌, length};
 ghost use Rattle.lines.specs.Writing.{decimal, spaced, separated};
 ghost use Rattle.replies.specs.Replies.{head, line, reply, opened, new, refused, closed, walked, cleared, unread, Wrote, Printed};

@@ -1,19 +1,21 @@
 // The report of document 02, Note 7: for each duct, how many switches other than the root lose exactly two walks, and how many all three, when
 // all its links fail, over the closed sessions added one after another. It is a state apart from the session, which is only read.
+#![tactic(auto)]
+
 ghost use Rattle.std.specs.Prelude.{◌≡◌, min};
 ghost use Rattle.report.specs.Report.{empty_report, reported_by, sessions_after, adding_outcome, AddsIn};
 
 use in_place::{Session, Stage, State};
 
 // The answer to adding a session: how many are added now, or a refusal's number and place.
-#[derive(Drop)]
+#[derive(Clone, Copy)]
 pub enum Added {
     Sessions(u16),
     Refused(u8, u16),
 }
 
 // How many sessions are added, and by duct how many of their switches lose exactly two walks, and all three; nothing stands at duct 0.
-#[derive(Drop)]
+#[derive(Clone, Copy)]
 pub struct Report {
     pub sessions: u16,
     pub two: [u32; 256],
@@ -34,7 +36,7 @@ impl Report {
 }
 
 // What adding a session answers, and the report after it.
-#[derive(Drop)]
+#[derive(Clone, Copy)]
 pub struct Adding {
     pub answer: Added,
     pub report: Report,

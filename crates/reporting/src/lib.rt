@@ -1,5 +1,7 @@
 // The sums of the report of document 02, Note 7, on lent slices: for each duct, how many switches other than the root lose exactly two walks,
 // and how many all three, when all its links fail. The work is N times the lengths of the walks, and N times the highest duct.
+#![tactic(auto)]
+
 ghost use Rattle.std.specs.Prelude.{◌≡◌, cond, ◌+◌, set, replicate};
 ghost use Rattle.mondschein.specs.Network.{at};
 ghost use Rattle.reporting.specs.Reporting.{duct_row, NoneAbove, duct_told, more, marks_after, marks_at, trees, trees_of, RaisesBoth, AddsSwitch, AddsSwitches, AddsLosses};

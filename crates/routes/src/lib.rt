@@ -1,5 +1,7 @@
 // Three routes between two switches of a session that has loaded a network, open or closed, or what parts the two (document 02, Note 8).
 // The session is only read, by value or in place.
+#![tactic(auto)]
+
 ghost use Rattle.std.specs.Prelude.{◌≡◌, length};
 ghost use Rattle.disjoint.specs.Replies.{routes_into};
 ghost use Rattle.routing.specs.Answers.{told_by};

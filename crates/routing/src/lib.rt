@@ -1,5 +1,7 @@
 // Three walks between two switches, written one after another into a lent slice, or what parts the two (document 02, Note 8).
 // Link tables are plain numbers, two for each link.
+#![tactic(auto)]
+
 ghost use Rattle.std.specs.Prelude.{◌≡◌, false, true, ◌∷◌, ◌+◌, ◌≤◌, length};
 ghost use Rattle.std.proofs.lemmas.List.Edits.{sets};
 ghost use Rattle.mondschein.specs.Network.{low, at, link_of};
@@ -11,14 +13,14 @@ ghost use Rattle.disjoint.specs.Replies.{told_of, wrong_pair, routes_into};
 ghost use Rattle.routing.specs.Answers.{things_of, told_by, in_cut_but};
 
 // What can be lost: a switch, or a link by its index in the table.
-#[derive(Drop)]
+#[derive(Clone, Copy)]
 pub enum Loss {
     Switch(u16),
     Link(u16),
 }
 
 // At most two things whose loss parts two switches.
-#[derive(Drop)]
+#[derive(Clone, Copy)]
 pub enum Things {
     Nothing,
     One(Loss),
@@ -26,7 +28,7 @@ pub enum Things {
 }
 
 // The answer: the counts of the three walks; what parts the two; or a refusal's number and place.
-#[derive(Drop)]
+#[derive(Clone, Copy)]
 pub enum Between {
     Walks(u16, u16, u16),
     Parted(Things),

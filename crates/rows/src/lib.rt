@@ -1,5 +1,7 @@
 // Rows of numbers on lent slices: entries, marks, positions.
 // A number past the end of a row reads as 0, and a store past it changes nothing.
+#![tactic(auto)]
+
 ghost use Rattle.std.specs.Prelude.{◌≡◌, min, length, set, replicate};
 ghost use Rattle.mondschein.specs.Network.{at};
 ghost use Rattle.mondschein.specs.Order.{position};

@@ -1,5 +1,7 @@
 // A line of the dialogue: it ends, and has what it asks of the session, the call or the walk that it names, with its reply.
 // The session's arrays are lent; a reply is written at the start of a slice.
+#![tactic(auto)]
+
 ghost use Rattle.std.specs.Prelude.{◌≤◌, ◌≡◌, length, take};
 ghost use Rattle.in_place.specs.InPlace.{session_in, SizedAs, IndexedIn};
 ghost use Rattle.collect.specs.declared.Request.TheVariants as Request·;

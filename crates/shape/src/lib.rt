@@ -1,5 +1,7 @@
 // The shape of an ear against lent tables: its checks up to 11, in their order, and the marks of an ear's numbers.
 // Births and used links are lent as marks, 0 for unborn and unused.
+#![tactic(auto)]
+
 ghost use Rattle.std.specs.Prelude.{◌≡◌, not, ◌||◌, cond, pred, ◌+◌, ◌≤◌, eqb, leb, length};
 ghost use Rattle.mondschein.specs.Network.{low, any, at, joined, link_of, new_count};
 ghost use Rattle.mondschein.specs.Judge.{born_between};
@@ -9,7 +11,7 @@ ghost use Rattle.rows.specs.Rows.{marked};
 ghost use Rattle.shape.specs.Shape.{Unmarked, MarksOf, ear_answer, LinkAnswer, ShapeAnswer};
 
 // The answer to an ear: the number of new switches, or a refusal's number and place.
-#[derive(Drop)]
+#[derive(Clone, Copy)]
 pub enum Ear {
     New(u16),
     Refused(u8, u16),

@@ -1,5 +1,7 @@
 // The tables of a session on lent slices: what one accepted ear changes in them.
 // A number past the end of a table changes nothing.
+#![tactic(auto)]
+
 ghost use Rattle.std.specs.Prelude.{◌≡◌, true, false, cond, [], suc, pred, ◌≤◌, length, take};
 ghost use Rattle.mondschein.specs.Network.{at, link_of};
 ghost use Rattle.mondschein.specs.Order.{between, extend};
@@ -141,7 +143,7 @@ fn accept_later(
 }
 
 // The counts that an ear leaves: of the long ears, and of the switches in the order.
-#[derive(Drop)]
+#[derive(Clone, Copy)]
 pub struct Counts {
     pub longs: u16,
     pub born: u16,

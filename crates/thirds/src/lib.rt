@@ -1,5 +1,7 @@
 // Tree 3 by the rule of document 02, Note 6, on lent slices: from last outwards, by falling births, each link twice.
 // Number h of the table is half-link h, which leads from its own switch to the link's other end.
+#![tactic(auto)]
+
 ghost use Rattle.std.specs.Prelude.{◌≡◌, suc, ◌*◌, ◌≤◌, ◌<◌, length};
 ghost use Rattle.mondschein.specs.Network.{size};
 ghost use Rattle.mondschein.specs.Order.{shortest};

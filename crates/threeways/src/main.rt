@@ -1,5 +1,7 @@
 // threeways: reads standard input in blocks, hands their bytes to the dialogue, and writes the replies before it reads on.
 // Memory is fixed: one block, one line, the numbers of an ear, the links collected and their ducts, replies, and the session's arrays with their index.
+#![tactic(auto)]
+
 ghost use Rattle.std.specs.Prelude.{◌≡◌, ◌≤◌, length};
 ghost use Rattle.in_place.specs.InPlace.{session_in, SizedAs};
 ghost use Rattle.blocks.specs.Running.{EndsWith};

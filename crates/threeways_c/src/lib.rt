@@ -1,5 +1,7 @@
 // The calls of a session for C, over the numbers and the arrays of struct threeways_session (include/threeways.h), lent one by one.
 // Each hands on what it is lent to the function of the same promise, for any contents of that memory, in a crate of its own.
+#![tactic(auto)]
+
 ghost use Rattle.network.specs.Load.{network_of};
 ghost use Rattle.records.specs.Records.{ends_of, ducts_of};
 ghost use Rattle.memory.specs.Memory.{numbers_by, memory_by};

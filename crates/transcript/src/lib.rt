@@ -1,5 +1,7 @@
 // The bytes of a line, held as the blocks of an input bring them.
 // Of a line no more is held than shows that it is too long.
+#![tactic(auto)]
+
 ghost use Rattle.std.specs.Prelude.{◌≡◌, true, [], ◌∷◌, ◌++◌, ◌≤◌, ◌<◌, length, take, drop};
 ghost use Rattle.transcript.specs.Transcript.{held_line, held_in};
 
@@ -16,7 +18,7 @@ fn hold(line: &mut [u8], held: usize, byte: u8) -> usize
 }
 
 // What a block leaves of a line: the count of its bytes that are held, the place after them in the block, and whether it ends there.
-#[derive(Drop)]
+#[derive(Clone, Copy)]
 pub struct Held {
     pub held: usize,
     pub next: usize,

@@ -1,5 +1,7 @@
 // The switches that are still unborn after an ear: whether one other than last is left, and check 16 of an ear's new switches.
 // Births are lent as marks, 0 for unborn.
+#![tactic(auto)]
+
 ghost use Rattle.std.specs.Prelude.{◌≡◌, not, ◌&&◌, ◌||◌, ◌+◌, ◌*◌, ◌<◌, eqb, ltb, length};
 ghost use Rattle.mondschein.specs.Network.{low, any, at, holds, joined};
 ghost use Rattle.network.specs.Index.{IndexedFrom, Indexed};

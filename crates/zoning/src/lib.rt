@@ -1,5 +1,7 @@
 // The zones of a closed session (document 02, Note 4): root, first and last in zones 1, 2 and 3 of the sizes wanted, each zone connected.
 // The session is only read, by value or in place.
+#![tactic(auto)]
+
 ghost use Rattle.std.specs.Prelude.{◌≡◌, length};
 ghost use Rattle.zones.specs.Sizing.{wrong_sizes};
 ghost use Rattle.zoning.specs.Zoning.{zoned_answer, zoned_by, ZonesIn};
@@ -7,7 +9,7 @@ ghost use Rattle.zoning.specs.Zoning.{zoned_answer, zoned_by, ZonesIn};
 use in_place::{Session, Stage, State};
 
 // The answer to zones: they are written, or a refusal's number and place.
-#[derive(Drop)]
+#[derive(Clone, Copy)]
 pub enum Zoned {
     Written,
     Refused(u8, u16),
