@@ -1,6 +1,5 @@
 use Prim.Native.Nat.{◌-◌}
 use mathlib.Core.Path.{◌≡◌, sym, ap, ◌∙◌}
-use mathlib.Core.Logic.{⊎_elim}
 use borrow.Author.Tests.{eq-eqb, ne_eqb}
 use borrow.Author.Rules.{rules}
 use mathlib.Core.Bool.{false, not}
@@ -10,6 +9,7 @@ use Rattle.shape.proofs.Marks.{marks_none}
 use Rattle.unborn.proofs.Neighbours.{and_failed, and_passed}
 use Rattle.unborn.proofs.other_unborn.Invariants.{other}
 use Rattle.unborn.proofs.other_unborn.Goals as goal
+use Rattle.unborn.proofs.other_unborn.Goals.{then-x-last+else-unborn, else-x-last}
 
 pub loop-x-init : goal.loop-x-init
 loop-x-init c = (search rules, rest_begin _ _)
@@ -25,13 +25,12 @@ returns-then-unborn c =
 
 pub loop-x-preserved : goal.loop-x-preserved
 loop-x-preserved c =
-    (
-      search rules,
-      c.loop-x.invariant.1
-          ∙ rest_miss _ _ _ c.loop-x-test.true
-          (⊎_elim {C = other c.args.last c.args.births.now c.args.ear.now c.loop-x.x ≡ false} (λ w. and_passed _ _ (ap not (ne_eqb _ _ w.0.taken)) ∙ sym w.2.ensures ∙ w.3.left)
-          (λ w. and_failed _ _ (ap not (eq-eqb _ _ w.left))) c.if-x-last.branch),
-    )
+    let e : other c.args.last c.args.births.now c.args.ear.now c.loop-x.x ≡ false =
+    elim c.if-x-last.branch [
+      then-x-last+else-unborn w ↦ and_passed _ _ (ap not (ne_eqb _ _ w.if-x-last.true)) ∙ sym w.unborn.ensures ∙ w.if-unborn.false
+      | else-x-last w ↦ and_failed _ _ (ap not (eq-eqb _ _ w.if-x-last.false))
+    ] in
+    (search rules, c.loop-x.invariant.1 ∙ rest_miss _ _ _ c.loop-x-test.true e)
 
 pub returns : goal.returns
 returns c = sym (any_end _ _ _ c.loop-x.invariant.1 c.loop-x-test.false)

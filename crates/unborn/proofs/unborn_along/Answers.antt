@@ -1,26 +1,16 @@
-use Prim.Native.Nat.{ℕ, ◌+◌, ◌-◌}
+use Prim.Native.Nat.{◌-◌}
 use mathlib.Core.Path.{refl, sym, ap, ◌∙◌}
-use mathlib.Core.Bool.{Bool, not, ◌||◌}
-use mathlib.Core.List.{List}
 use native.Mathlib.Omega.{arith}
-use Rattle.mondschein.specs.Network.{size, holds}
+use Rattle.mondschein.specs.Network.{size}
 use Rattle.network.specs.Load.{table_of}
 use Rattle.network.proofs.Indexing.{follow_begin, follow_miss, follow_more}
-use Rattle.rows.specs.Rows.{marked}
 use Rattle.unborn.proofs.Neighbours.{along_hit, along_end}
-use Rattle.unborn.proofs.unborn_along.Invariants.{sought}
+use Rattle.unborn.proofs.unborn_along.Invariants.{free, sought}
 use Rattle.unborn.proofs.unborn_along.Goals as goal
-
--- x is still unborn after the ear
-abbrev free : List ℕ → List ℕ → ℕ → Bool
-free births ear x = not (marked births x || holds ear x)
 
 pub bounds-index-v : goal.bounds-index-v
 bounds-index-v c =
     omega (arith, c.requires.0.places, c.requires.1)
-
-pub overflow_cast-h-2 : goal.overflow_cast-h-2
-overflow_cast-h-2 c = omega (arith, c.type_inv.index c.args.v)
 
 pub loop-h-init : goal.loop-h-init
 unfolding size
@@ -41,9 +31,6 @@ pub bounds-index-h : goal.bounds-index-h
 unfolding size
 bounds-index-h c =
     omega (arith, c.loop-h-test.true, c.loop-h.invariant.1, c.requires.0.places, c.requires.0.fits)
-
-pub overflow_cast-h-in-loop-h : goal.overflow_cast-h-in-loop-h
-overflow_cast-h-in-loop-h c = omega (arith, c.type_inv.index (2048 + c.loop-h.h))
 
 pub loop-h-smaller : goal.loop-h-smaller
 loop-h-smaller c =
