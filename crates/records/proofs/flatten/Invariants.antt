@@ -1,0 +1,14 @@
+use Rattle.std.proofs.Common.{◌≡◌, ◌-◌, ◌≤◌, length, take, replicate}
+use Rattle.records.specs.Records.{ends_of, ducts_of}
+use Rattle.records.proofs.Records.{fitting}
+use Rattle.records.proofs.flatten.Given as goal
+
+-- the rows once the first records are stored
+abbrev pub invariant-loop-i : goal.invariant-loop-i
+invariant-loop-i l =
+    (l.i ≤ length l.links)
+    × (l.ends ≡ fitting (ends_of (take l.i l.links)) (replicate 8192 0))
+    × (l.ducts ≡ fitting (ducts_of (take l.i l.links)) (replicate 4096 0))
+
+abbrev pub decreases-loop-i : goal.decreases-loop-i
+decreases-loop-i l = length l.links - l.i
