@@ -56,7 +56,7 @@ reply_to f (refused num place) = Replies.refused num place
 -- line number k collects a link with its duct, up to the most that a network has
 unfoldable pub collected : Dialogue → ℕ → ℕ → ℕ → ℕ → Turn Dialogue
 collected d k a b duct =
-    cond (ltb (length d.links) (2 * limits.maxLinks)) (silent (with_links d (d.links ++ (a ∷ b ∷ [])) (d.ducts ++ (duct ∷ [])))) (unread_at d k)
+    cond (ltb (length d.links) (2 * limits.max_links)) (silent (with_links d (d.links ++ (a ∷ b ∷ [])) (d.ducts ++ (duct ∷ [])))) (unread_at d k)
 
 -- what line number k does, by the form that it is read as
 unfoldable pub respond : Dialogue → ℕ → Option Form → Turn Dialogue
@@ -74,7 +74,7 @@ respond d k (some closing) =
     let o = closed_by shortest d.session in
     answered (with_session d o.after) (reply_to (λ vs. closed) o.answer)
 respond d k (some (walk switch tree)) =
-    let o = walked_by d.session switch tree (replicate limits.maxSwitches 0) in
+    let o = walked_by d.session switch tree (replicate limits.max_switches 0) in
     answered d (reply_to (λ vs. walked switch tree (take (at vs 0) o.after)) o.answer)
 respond d k (some clearing) = answered fresh cleared
 

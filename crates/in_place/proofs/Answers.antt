@@ -113,8 +113,8 @@ module _ (s : Session) (e : List ℕ) where
   as_judged f = rw f
 
 -- an ear that is accepted has two numbers or more
-pub accepted_two : (net : Network) (isBorn isUsed : ℕ → Bool) (b : Bool) (e vs : List ℕ) → verdict net isBorn isUsed b e ≡ given vs → 2 ≤ length e
-accepted_two net isBorn isUsed b e vs q = omega (arith, (given_passed net isBorn isUsed b e vs q).at_least, two b)
+pub accepted_two : (net : Network) (is_born is_used : ℕ → Bool) (b : Bool) (e vs : List ℕ) → verdict net is_born is_used b e ≡ given vs → 2 ≤ length e
+accepted_two net is_born is_used b e vs q = omega (arith, (given_passed net is_born is_used b e vs q).at_least, two b)
   where
     two : (c : Bool) → 2 ≤ cond c 3 2
     two true = omega arith

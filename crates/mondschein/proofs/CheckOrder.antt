@@ -22,8 +22,8 @@ use Rattle.mondschein.proofs.Births.{Passing, accepted_passing, ear_two, at_born
 use Rattle.mondschein.proofs.EmptyEar.{some_not_empty}
 
 -- whatever is born and used
-module _ (net : Network) (isBorn isUsed : ℕ → Bool) (is_first : Bool) (e : List ℕ) where
-  pub only_moved : OnlyMoved net isBorn isUsed is_first e
+module _ (net : Network) (is_born is_used : ℕ → Bool) (is_first : Bool) (e : List ℕ) where
+  pub only_moved : OnlyMoved net is_born is_used is_first e
   unfolding verdict_by numbered ear_checks holds any low without
   only_moved =
       record {
@@ -31,13 +31,13 @@ module _ (net : Network) (isBorn isUsed : ℕ → Bool) (is_first : Bool) (e : L
         accepts = λ vs. (λ q. sym (none_between (passes check_order refl q)) ∙ q, λ q. none_between (passes old_check_order refl q) ∙ q);
       }
     where
-      none_between : ((k : ℕ) → k < length e → born_between isBorn is_first e k ≡ false) → verdict net isBorn isUsed is_first e ≡ verdict_by old_check_order net isBorn isUsed is_first e
+      none_between : ((k : ℕ) → k < length e → born_between is_born is_first e k ≡ false) → verdict net is_born is_used is_first e ≡ verdict_by old_check_order net is_born is_used is_first e
       none_between c =
-          checked_without (ear_checks net isBorn isUsed is_first e) check_order _ 14 c
-          ∙ sym (checked_without (ear_checks net isBorn isUsed is_first e) old_check_order _ 14 c)
+          checked_without (ear_checks net is_born is_used is_first e) check_order _ 14 c
+          ∙ sym (checked_without (ear_checks net is_born is_used is_first e) old_check_order _ 14 c)
 
-      passes : (nums : List ℕ) {vs : List ℕ} → holds nums 14 ≡ true → verdict_by nums net isBorn isUsed is_first e ≡ given vs → (k : ℕ) → k < length e → born_between isBorn is_first e k ≡ false
-      passes nums h q = (checked_given (ear_checks net isBorn isUsed is_first e) nums _ _ q).0 14 h
+      passes : (nums : List ℕ) {vs : List ℕ} → holds nums 14 ≡ true → verdict_by nums net is_born is_used is_first e ≡ given vs → (k : ℕ) → k < length e → born_between is_born is_first e k ≡ false
+      passes nums h q = (checked_given (ear_checks net is_born is_used is_first e) nums _ _ q).0 14 h
 
 -- the switches of a used link are born
 used_born : (net : Network) (es : Ears) → Passing net es → (l x y : ℕ) → used net es l ≡ true → joins net l x y ≡ true → (born es x ≡ true) × (born es y ≡ true)

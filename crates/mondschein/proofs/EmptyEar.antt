@@ -152,10 +152,10 @@ unchanged_itself net es =
     }
 
 -- what a leftover link is
-left_is : (net : Network) (isBorn isUsed : ℕ → Bool) (l : ℕ) → left_over net isBorn isUsed l ≡ true
-    → (isUsed l ≡ false) × (isBorn (former net l) ≡ true) × (isBorn (latter net l) ≡ true)
+left_is : (net : Network) (is_born is_used : ℕ → Bool) (l : ℕ) → left_over net is_born is_used l ≡ true
+    → (is_used l ≡ false) × (is_born (former net l) ≡ true) × (is_born (latter net l) ≡ true)
 unfolding left_over
-left_is net isBorn isUsed l h = let (u, ends) = and_true (not (isUsed l)) _ h in let (a, b) = and_true (isBorn (former net l)) _ ends in (not-true _ u, a, b)
+left_is net is_born is_used l h = let (u, ends) = and_true (not (is_used l)) _ h in let (a, b) = and_true (is_born (former net l)) _ ends in (not-true _ u, a, b)
 
 -- one more short ear
 pub unchanged_short : (net : Network) (es : Ears) (e : List ℕ) → 0 < length es → Accepted net (es ++ (e ∷ [])) → length e ≡ 2 → Unchanged net es (es ++ (e ∷ []))

@@ -45,10 +45,10 @@ module _ (net : Network) where
   loading_given vs q =
       let (c, q') = checked_given (load_checks net) load_order _ vs q in
       let one : 0 < 1 = omega arith in
-      let (s, e) = or_false (outside net.n limits.minSwitches limits.maxSwitches || outside (size net) limits.minLinks limits.maxLinks) _ (c 1 refl 0 one) in
-      let (sn, sm) = or_false (outside net.n limits.minSwitches limits.maxSwitches) _ s in
-      let (n1, n2) = or_false (ltb net.n limits.minSwitches) _ sn in
-      let (m1, m2) = or_false (ltb (size net) limits.minLinks) _ sm in
+      let (s, e) = or_false (outside net.n limits.min_switches limits.max_switches || outside (size net) limits.min_links limits.max_links) _ (c 1 refl 0 one) in
+      let (sn, sm) = or_false (outside net.n limits.min_switches limits.max_switches) _ s in
+      let (n1, n2) = or_false (ltb net.n limits.min_switches) _ sn in
+      let (m1, m2) = or_false (ltb (size net) limits.min_links) _ sm in
       let (below, diff) = or_false (leb net.n net.root || leb net.n net.first || leb net.n net.last) _ (c 5 refl 0 one) in
       let (b12, b3) = or_false (leb net.n net.root || leb net.n net.first) _ below in
       let (b1, b2) = or_false (leb net.n net.root) _ b12 in

@@ -28,19 +28,19 @@ module _ (a b : ℕ) (differ : a ≢ b) where
       (both (λ k. b ≡ at (a ∷ b ∷ []) k → 1 ≡ k) (λ q. absurd (differ (sym q))) (λ q. refl) k m)
       j l
 
-module _ (net : Network) (isBorn isUsed : ℕ → Bool) where
-  pub short_given : (a b : ℕ) → a < net.n → b < net.n → a ≢ b → isBorn a ≡ true → isBorn b ≡ true → joined net a b ≡ true → isUsed (link_of net a b) ≡ false
-      → verdict net isBorn isUsed false (a ∷ b ∷ []) ≡ given (0 ∷ [])
+module _ (net : Network) (is_born is_used : ℕ → Bool) where
+  pub short_given : (a b : ℕ) → a < net.n → b < net.n → a ≢ b → is_born a ≡ true → is_born b ≡ true → joined net a b ≡ true → is_used (link_of net a b) ≡ false
+      → verdict net is_born is_used false (a ∷ b ∷ []) ≡ given (0 ∷ [])
   unfolding new_count
   short_given a b l m d a-born b-born linked unused =
-      passed_given net isBorn isUsed false (a ∷ b ∷ [])
+      passed_given net is_born is_used false (a ∷ b ∷ [])
       (record {
         at_least = omega arith;
         fits = two_below a b d net.n l m;
         below = both (λ k. at (a ∷ b ∷ []) k < net.n) l m;
         simple = two_simple a b d;
         linked = one (λ k. joined net (at (a ∷ b ∷ []) k) (at (a ∷ b ∷ []) (suc k)) ≡ true) linked;
-        unused = one (λ k. isUsed (link_of net (at (a ∷ b ∷ []) k) (at (a ∷ b ∷ []) (suc k))) ≡ false) unused;
+        unused = one (λ k. is_used (link_of net (at (a ∷ b ∷ []) k) (at (a ∷ b ∷ []) (suc k))) ≡ false) unused;
         cycle = λ z. clash z refl;
         ends = λ _. (a-born, b-born);
         inner = λ _ k v w. absurd (omega arith);

@@ -11,9 +11,9 @@ old_check_order = 7 ∷ 8 ∷ 9 ∷ 10 ∷ 11 ∷ 12 ∷ 13 ∷ 14 ∷ 15 ∷ 16
 
 -- only 14 moved, whatever is born and used: an ear with no born switch between its ends is answered as before, and the order decides which
 -- refusal is told, not whether there is one
-pub record OnlyMoved (net : Network) (isBorn isUsed : ℕ → Bool) (is_first : Bool) (e : List ℕ) : Type 0 where
-  pub none_between : ((k : ℕ) → k < length e → born_between isBorn is_first e k ≡ false) → verdict net isBorn isUsed is_first e ≡ verdict_by old_check_order net isBorn isUsed is_first e
-  pub accepts : (vs : List ℕ) → (verdict net isBorn isUsed is_first e ≡ given vs) ↔ (verdict_by old_check_order net isBorn isUsed is_first e ≡ given vs)
+pub record OnlyMoved (net : Network) (is_born is_used : ℕ → Bool) (is_first : Bool) (e : List ℕ) : Type 0 where
+  pub none_between : ((k : ℕ) → k < length e → born_between is_born is_first e k ≡ false) → verdict net is_born is_used is_first e ≡ verdict_by old_check_order net is_born is_used is_first e
+  pub accepts : (vs : List ℕ) → (verdict net is_born is_used is_first e ≡ given vs) ↔ (verdict_by old_check_order net is_born is_used is_first e ≡ given vs)
 
 -- offering the ear e after the accepted ears es
 module _ (net : Network) (es : Ears) (e : List ℕ) where

@@ -7,11 +7,11 @@ use Rattle.mondschein.specs.Judge.{Answer, given, verdict, judge, closing, Accep
 use Rattle.mondschein.specs.Order.{order, Rule, parent1, parent2, parent_of}
 use Rattle.mondschein.specs.Mondschein.{Mondschein}
 
--- where `isBorn` are born and `isUsed` used
-module _ (net : Network) (isBorn isUsed : ℕ → Bool) where
+-- where `is_born` are born and `is_used` used
+module _ (net : Network) (is_born is_used : ℕ → Bool) where
   -- link l is left over: it is unused, and its two switches are born
   unfoldable pub left_over : ℕ → Bool
-  left_over l = not (isUsed l) && (isBorn (former net l) && isBorn (latter net l))
+  left_over l = not (is_used l) && (is_born (former net l) && is_born (latter net l))
 
   -- the leftover links below c, in table order, as short ears
   unfoldable pub short_ears : ℕ → Ears
@@ -24,7 +24,7 @@ is_empty is_first e = not is_first && eqb (length e) 0
 
 -- what an offered ear is answered: an empty one gives 0, any other is judged
 unfoldable pub entering : Network → (ℕ → Bool) → (ℕ → Bool) → Bool → List ℕ → Answer
-entering net isBorn isUsed is_first e = cond (is_empty is_first e) (given (0 ∷ [])) (verdict net isBorn isUsed is_first e)
+entering net is_born is_used is_first e = cond (is_empty is_first e) (given (0 ∷ [])) (verdict net is_born is_used is_first e)
 
 -- offering the ear e after the accepted ears es
 module _ (net : Network) (es : Ears) (e : List ℕ) where

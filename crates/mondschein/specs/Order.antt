@@ -55,10 +55,10 @@ pub data Rule : Type 0 where
   shortest : Rule
 
 -- births numbered in any way
-module _ (net : Network) (birthOf : ℕ → ℕ) where
+module _ (net : Network) (birth_of : ℕ → ℕ) where
   -- x is a neighbour of v born later
   abbrev pub is_later : ℕ → ℕ → Bool
-  is_later v x = joined net v x && ltb (birthOf v) (birthOf x)
+  is_later v x = joined net v x && ltb (birth_of v) (birth_of x)
 
   -- from v at most k links, each to a neighbour born later, lead to last
   unfoldable pub reaches : ℕ → ℕ → Bool

@@ -31,12 +31,12 @@ unfolding new_count
 new_later b c h = rw h
 
 -- 14 is asked of a later ear only, and there between the ends
-module _ (isBorn : ℕ → Bool) (b : Bool) (e : List ℕ) where
-  pub first_14 : b ≡ true → length e ≡ low (born_between isBorn b e) (length e)
+module _ (is_born : ℕ → Bool) (b : Bool) (e : List ℕ) where
+  pub first_14 : b ≡ true → length e ≡ low (born_between is_born b e) (length e)
   unfolding born_between
-  first_14 t = sym (low_none (born_between isBorn b e) (length e) (λ k l. rw t))
+  first_14 t = sym (low_none (born_between is_born b e) (length e) (λ k l. rw t))
 
-  pub later_14 : b ≡ false → low (λ k. is_new false (length e) k && isBorn (at e k)) (length e) ≡ low (born_between isBorn b e) (length e)
+  pub later_14 : b ≡ false → low (λ k. is_new false (length e) k && is_born (at e k)) (length e) ≡ low (born_between is_born b e) (length e)
   unfolding born_between
   later_14 f = rw f
 

@@ -286,12 +286,12 @@ module _ (n : ℕ) (links : List ℕ) (h : ℕ) (row dist : List ℕ) {x : ℕ} 
 -- the chain that begins with `start` is followed up to half-link h
 abbrev pub FollowsTo : ℕ → List ℕ → List ℕ → ℕ → ℕ → List ℕ → List ℕ → List ℕ → List ℕ → Type 0
 FollowsTo n links nexts start h row dist row' dist' =
-    (root last k : ℕ) (birthOf : ℕ → ℕ) (heads : List ℕ)
-    → ChainedFrom links birthOf 0 heads nexts
-    → LowestRising links birthOf k 0 start
-    → Nearing (network_of n links root 0 last) birthOf (suc k) 0 row dist
-    → (h < 2 * size (table_of links) → Rises links birthOf h × (birthOf (at links h) ≡ k))
-    × Nearing (network_of n links root 0 last) birthOf (suc k) h row' dist'
+    (root last k : ℕ) (birth_of : ℕ → ℕ) (heads : List ℕ)
+    → ChainedFrom links birth_of 0 heads nexts
+    → LowestRising links birth_of k 0 start
+    → Nearing (network_of n links root 0 last) birth_of (suc k) 0 row dist
+    → (h < 2 * size (table_of links) → Rises links birth_of h × (birth_of (at links h) ≡ k))
+    × Nearing (network_of n links root 0 last) birth_of (suc k) h row' dist'
 
 module _ (n : ℕ) (links nexts : List ℕ) (start : ℕ) (row dist : List ℕ) where
   pub chain_begin : FollowsTo n links nexts start start row dist row dist

@@ -16,8 +16,8 @@ use Rattle.memory_report.proofs.add.Statement.{statement}
 use Rattle.memory_report.proofs.add.Tie as tie
 
 -- the report and the memory that are lent, with the arrays that are not whatever they are
-abbrev reportIn : tie.Start → Report
-reportIn c = let a = c.args in report_of a.sessions.now a.two.now a.three.now
+abbrev report_in : tie.Start → Report
+report_in c = let a = c.args in report_of a.sessions.now a.two.now a.three.now
 
 abbrev held : tie.Start → List ℕ → List ℕ → List ℕ → Memory
 held c used births order =
@@ -32,7 +32,7 @@ before-rows c = c.before.before.before.before.before.before.before.before
 -- all that is lent has the structs' lengths
 right_lengths : (c : tie.Else2) → let start = before-rows c.before.before.before in
     (used births order : List ℕ) → LinkRow used → Row births → Row order
-    → (wrong_report (reportIn start) || wrong_in (held start used births order)) ≡ false
+    → (wrong_report (report_in start) || wrong_in (held start used births order)) ≡ false
 right_lengths c used births order u b o =
     rows_right _ _ _ (sym c.before.before.before.wrong-rows.ensures ∙ c.before.before.if1.false)
     (lengths_add _ _ _ _ _ _ _ _ u b o ∙ sym c.before.wrong-lengths.ensures ∙ c.if2.false)
@@ -41,12 +41,12 @@ right_lengths c used births order u b o =
 abbrev outcome : tie.Start → State → List ℕ → List ℕ → List ℕ → Outcome Report
 outcome c st used births order =
     let a = c.args in
-    reported_by (reportIn c) (session_in st a.links.now a.ducts.now used births order a.tree1.now a.tree2.now a.tree3.now)
+    reported_by (report_in c) (session_in st a.links.now a.ducts.now used births order a.tree1.now a.tree2.now a.tree3.now)
 
 -- the state lent to adding is the one that the memory means
 meant : (c : tie.After-add-in) → let start = before-rows c.before.before.before.before.before.before.before.before in
     (used births order : List ℕ)
-    → outcome start c.before.before.before.before.state_of_lem.result used births order ≡ reported_in (reportIn start) (held start used births order)
+    → outcome start c.before.before.before.before.state_of_lem.result used births order ≡ reported_in (report_in start) (held start used births order)
 meant c used births order =
     let start = before-rows c.before.before.before.before.before.before.before.before in
     ap (λ (st : State). outcome start st used births order) c.before.before.before.before.state_of_lem.ensures

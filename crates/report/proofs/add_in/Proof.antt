@@ -13,8 +13,8 @@ use Rattle.report.proofs.add_in.Statement.{statement}
 use Rattle.report.proofs.add_in.Tie as tie
 
 -- the report that the lent sums hold, and the session of the lent arrays, with the others whatever they are
-abbrev reportIn : tie.Start → Report
-reportIn c = let a = c.args in report_of a.sessions a.two.now a.three.now
+abbrev report_in : tie.Start → Report
+report_in c = let a = c.args in report_of a.sessions a.two.now a.three.now
 
 abbrev held : tie.Start → List ℕ → List ℕ → List ℕ → Session
 held c used births order =
@@ -34,16 +34,16 @@ enum-told-4 : tie.Need-enum-told-4
 enum-told-4 c = search rules
 
 returns : tie.Need-returns
-returns c = let start = c.before.before.before.before.before.before.before.before.before.before in λ used births order. added_empty (reportIn start) (held start used births order) c.enum-told2.given.1
+returns c = let start = c.before.before.before.before.before.before.before.before.before.before in λ used births order. added_empty (report_in start) (held start used births order) c.enum-told2.given.1
 
 returns-2 : tie.Need-returns-2
-returns-2 c = let start = c.before.before.before.before.before.before.before.before.before.before in λ used births order. added_open (reportIn start) (held start used births order) c.enum-told3.given.1
+returns-2 c = let start = c.before.before.before.before.before.before.before.before.before.before in λ used births order. added_open (report_in start) (held start used births order) c.enum-told3.given.1
 
 returns-3 : tie.Need-returns-3
 returns-3 c = λ used births order. absurd (⊎_elim (λ e. omega arith) (λ e. omega arith) (rw c.enum-told4.given.1 at c.before.before.match.keys2))
 
 returns-4 : tie.Need-returns-4
-returns-4 c = let start = c.before.before.before.before.before.before.before.before.before.before in λ used births order. added_25 (reportIn start) (held start used births order) c.before.enum_told.given.1 c.if1.true
+returns-4 c = let start = c.before.before.before.before.before.before.before.before.before.before in λ used births order. added_25 (report_in start) (held start used births order) c.before.enum_told.given.1 c.if1.true
 
 switches-of-requires : tie.Need-switches-of-requires
 switches-of-requires c κs = search rules
@@ -78,7 +78,7 @@ returns-5 c =
     let at_switches = c.before.before.before.before.before.before.before.before.before.before in
     let at_if1 = at_switches.before in
     let start = at_if1.before.before.before.before.before.before.before.before.before.before in
-    λ used births order. added_done (reportIn start) (held start used births order) at_if1.before.enum_told.given.1 at_if1.if1.false at_switches.switches-of.ensures at_least_lem.least.ensures
+    λ used births order. added_done (report_in start) (held start used births order) at_if1.before.enum_told.given.1 at_if1.if1.false at_switches.switches-of.ensures at_least_lem.least.ensures
     c.before.before.before.before.add-losses.ensures.0 c.before.before.before.before.add-losses.ensures.1
 
 pub add_in_spec : {M : Type 1} → statement M
