@@ -1,8 +1,6 @@
 use Prim.Native.Nat.{ℕ}
 use mathlib.Core.Path.{sym, ap, ◌∙◌}
-use mathlib.Core.Logic.{⊎_elim}
 use mathlib.Core.List.{List, [], ◌∷◌}
-use native.Mathlib.Omega.{arith}
 use Rattle.mondschein.specs.Network.{at}
 use Rattle.mondschein.specs.Judge.{given}
 use Rattle.in_place.specs.declared.Session.{Session}
@@ -22,7 +20,7 @@ returns-in-Open c =
 
 pub returns-in-Closed-stage : goal.returns-in-Closed-stage
 returns-in-Closed-stage c =
-    λ links ducts used births order. absurd (⊎_elim (λ e. omega arith) (λ e. omega arith) (rw c.in-Closed-stage.is at c.in_default.keys2))
+    λ links ducts used births order. absurd (c.in_default.not-Closed c.in-Closed-stage.is)
 
 pub returns-then-unknown : goal.returns-then-unknown
 returns-then-unknown c =

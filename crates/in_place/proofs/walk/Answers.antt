@@ -1,8 +1,6 @@
 use Prim.Native.Nat.{ℕ}
 use mathlib.Core.Path.{sym, ◌∙◌}
-use mathlib.Core.Logic.{⊎_elim}
 use mathlib.Core.List.{List}
-use native.Mathlib.Omega.{arith}
 use Rattle.in_place.specs.declared.Session.{Session}
 use Rattle.in_place.specs.InPlace.{session_in}
 use Rattle.in_place.proofs.Queries.{tree_1, tree_2, tree_3, walk_empty, walk_open, walk_unknown, walk_known}
@@ -20,7 +18,7 @@ returns-in-Open c =
 
 pub returns-in-Closed-stage : goal.returns-in-Closed-stage
 returns-in-Closed-stage c =
-    λ links ducts used births order. absurd (⊎_elim (λ e. omega arith) (λ e. omega arith) (rw c.in-Closed-stage.is at c.in_default.keys2))
+    λ links ducts used births order. absurd (c.in_default.not-Closed c.in-Closed-stage.is)
 
 pub returns-then-unknown : goal.returns-then-unknown
 returns-then-unknown c =
