@@ -1,6 +1,6 @@
 -- Which right number may follow which left one: a neighbour, or the switch itself; a copy of s stands for s.
 -- A half-link leads from its switch to a neighbour, and each neighbour has one that leads to it.
-use mathlib.Core.Path.{◌≡◌, refl, sym, ap, ◌∙◌, subst}
+use mathlib.Core.Path.{◌≡◌, sym, ap, ◌∙◌, subst}
 use mathlib.Core.Logic.{◌⊎◌, inl, inr, ⊎_elim, ◌≢◌}
 use mathlib.Core.Bool.{true, not, cond}
 use Prim.Native.Nat.{ℕ, ◌*◌, ◌/◌, ◌≤◌, ◌<◌}

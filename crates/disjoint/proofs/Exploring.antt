@@ -10,11 +10,11 @@ use lib.Dec.{eqb, ltb}
 use lib.ListN.{length, length-set, length-replicate, replicate}
 use lib.Seq.{get_or-set_other}
 use borrow.Author.Tests.{ltb-true, ltb-false, lt-ltb, eqb-true, eqb-false, not-true}
-use Rattle.mondschein.specs.Network.{count, Network, at, size, joined, Proper}
+use Rattle.mondschein.specs.Network.{count, Network, at, size, Proper}
 use Rattle.mondschein.proofs.Logic.{which, clash, less?, same?, and_true, or_true, true_and, and_false, or_false}
 use Rattle.mondschein.proofs.Search.{count_lt, count_bound}
 use Rattle.network.specs.Index.{far_end}
-use Rattle.rows.specs.Rows.{marked, assigned}
+use Rattle.rows.specs.Rows.{marked}
 use Rattle.rows.proofs.Assigned.{assigned_at}
 use Rattle.disjoint.specs.Matching.{usable, left, Explored, entered, blank, leaving, inverse, enterable, enter, leave_by, leave, turns, explore}
 use Rattle.disjoint.proofs.Alternating.{Trace, enter as record-entry, seen, seen_new, seen_old, seen_cases, seen_start, Matching, Entered, Traced}

@@ -14,7 +14,7 @@ use Rattle.mondschein.specs.Network.{Network, joined, Proper}
 use Rattle.mondschein.proofs.Logic.{less?}
 use Rattle.disjoint.specs.Paths.{Routes, walks, parted, Right}
 use Rattle.disjoint.specs.Matching.{selves, in_cut, Tried, all, short, tries, answer_by, routes_of}
-use Rattle.disjoint.specs.Replies.{refusing, Told, written, told_of, wrong_pair, routes_into, Promised, Answered, Promise}
+use Rattle.disjoint.specs.Replies.{refusing, written, told_of, wrong_pair, routes_into, Promised, Answered, Promise}
 use Rattle.disjoint.specs.Statements.{Ends}
 use Rattle.disjoint.proofs.Separating.{lowest_few}
 use Rattle.disjoint.proofs.Answering.{excludes, right_answers, at_most_lem}

@@ -2,7 +2,7 @@
 -- are left, N, N + 1 and N + 2 three copies of s; right numbers are switches as they are entered. next u is entered after u was left: a
 -- switch on no walk is followed by itself, so that every switch but t is entered once. One more walk is one more copy of s that is matched,
 -- along an augmenting path that an alternating search finds.
-use Rattle.std.specs.Prelude.{◌≡◌, Bool, true, false, not, ◌&&◌, ◌||◌, cond, List, [], ◌∷◌, ℕ, zero, suc, ◌*◌, eqb, ltb, set, replicate}
+use Rattle.std.specs.Prelude.{Bool, true, false, not, ◌&&◌, ◌||◌, cond, List, [], ◌∷◌, ℕ, zero, suc, ◌*◌, eqb, ltb, set, replicate}
 use Rattle.mondschein.specs.Network.{low, any, Network, at, size, joined, link_of}
 use Rattle.mondschein.specs.Order.{walk_by}
 use Rattle.mondschein.specs.Routes.{Thing, switch, link}

@@ -23,7 +23,6 @@ module _ (n : ℕ) (links : List ℕ) (root first last k : ℕ) where
   both : joined (table_of links) root first ≡ true → joined (table_of links) root last ≡ true → missing_link (network_of n links root first last) k ≡ false
   both t u = asked ∙ rw (t, u)
 
-
 pub returns-then-wrong_names : goal.returns-then-wrong_names
 unfolding loading_by checked numbered load_checks wrong_names
 returns-then-wrong_names c = sym (check_fail _ _ _ (sym c.wrong_names.ensures ∙ c.if-wrong_names.true))

@@ -1,5 +1,4 @@
 use Rattle.network.proofs.Indexing.{cleared_more}
-use Prim.Native.Nat.{◌-◌}
 use mathlib.Core.Path.{refl, ◌∙◌}
 use native.Mathlib.Omega.{arith}
 use lib.ListN.{length-set}

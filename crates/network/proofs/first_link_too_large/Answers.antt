@@ -1,4 +1,4 @@
-use Prim.Native.Nat.{ℕ, ◌≤◌, ◌<◌, ◌+◌, ◌-◌, ◌*◌}
+use Prim.Native.Nat.{ℕ, ◌≤◌, ◌<◌, ◌+◌, ◌*◌}
 use mathlib.Core.Path.{◌≡◌}
 use mathlib.Core.Bool.{true, false}
 use mathlib.Core.List.{List}
@@ -25,7 +25,6 @@ module _ (n : ℕ) (links : List ℕ) (i : ℕ) where
   large_neither : at links (2 * i) < n → at links (2 * i + 1) < n → link_too_large (network_of n links 0 0 0) i ≡ false
   unfolding link_too_large former latter
   large_neither l m = false_or _ _ (lt-leb _ _ l) (lt-leb _ _ m)
-
 
 pub loop-i-init : goal.loop-i-init
 loop-i-init c = searched_begin _ _

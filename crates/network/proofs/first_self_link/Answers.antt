@@ -1,4 +1,3 @@
-use Prim.Native.Nat.{◌-◌}
 use borrow.Author.Tests.{eq-eqb, ne_eqb}
 use Rattle.mondschein.specs.Network.{former, latter}
 use Rattle.mondschein.specs.Judge.{self_link}

@@ -1,4 +1,3 @@
-use Prim.Native.Nat.{◌-◌}
 use mathlib.Core.Path.{sym, ◌∙◌}
 use Rattle.mondschein.specs.Network.{link_of}
 use Rattle.network.proofs.Tables.{searched_begin, searched_hit, searched_miss, searched_end}

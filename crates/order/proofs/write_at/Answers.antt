@@ -1,4 +1,4 @@
-use Prim.Native.Nat.{ℕ, ◌+◌, ◌-◌}
+use Prim.Native.Nat.{ℕ, ◌+◌}
 use mathlib.Core.Path.{refl, ap, ◌∙◌}
 use mathlib.Core.List.{List}
 use native.Mathlib.Omega.{arith}
@@ -12,14 +12,13 @@ pub loop-k-init : goal.loop-k-init
 loop-k-init c = (search rules, refl, paste-zero _ c.args.at c.args.part.now)
 
 pub loop-k-preserved : goal.loop-k-preserved
-loop-k-preserved c =
-    (
-      search rules,
-      search rules,
-      ap (λ (l : List ℕ). set l (c.args.at + c.loop-k.k) (get_or c.args.part.now c.loop-k.k 0))
-          c.loop-k.invariant.2
-          ∙ paste_more _ _ _ _ _ refl c.requires c.loop-k-test.true,
-    )
+loop-k-preserved c = (
+  search rules,
+  search rules,
+  ap (λ (l : List ℕ). set l (c.args.at + c.loop-k.k) (get_or c.args.part.now c.loop-k.k 0))
+      c.loop-k.invariant.2
+      ∙ paste_more _ _ _ _ _ refl c.requires c.loop-k-test.true,
+)
 
 pub returns : goal.returns
 returns c =

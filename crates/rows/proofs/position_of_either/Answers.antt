@@ -1,4 +1,3 @@
-use Prim.Native.Nat.{◌-◌}
 use native.Mathlib.Omega.{arith}
 use Rattle.rows.proofs.Rows.{position_end, position_hit, position_miss}
 use borrow.Author.Rules.{rules}
@@ -13,12 +12,11 @@ returns-then-x-b c =
     omega (arith, c.loop-k.invariant, position_hit c.args.list.now c.args.b c.loop-k.k c.if-x-b.true)
 
 pub loop-k-preserved : goal.loop-k-preserved
-loop-k-preserved c =
-    (
-      search rules,
-      position_miss c.args.list.now c.args.a c.loop-k.k c.loop-k-test.true c.loop-k.invariant.1 c.if-x-a.false,
-      position_miss c.args.list.now c.args.b c.loop-k.k c.loop-k-test.true c.loop-k.invariant.2 c.if-x-b.false,
-    )
+loop-k-preserved c = (
+  search rules,
+  position_miss c.args.list.now c.args.a c.loop-k.k c.loop-k-test.true c.loop-k.invariant.1 c.if-x-a.false,
+  position_miss c.args.list.now c.args.b c.loop-k.k c.loop-k-test.true c.loop-k.invariant.2 c.if-x-b.false,
+)
 
 pub returns : goal.returns
 returns c =

@@ -1,4 +1,4 @@
-use Prim.Native.Nat.{ℕ, ◌-◌}
+use Prim.Native.Nat.{ℕ}
 use mathlib.Core.Path.{refl, ap, ◌∙◌}
 use mathlib.Core.List.{List}
 use native.Mathlib.Omega.{arith}
@@ -12,13 +12,12 @@ pub loop-i-init : goal.loop-i-init
 loop-i-init c = (search rules, refl, fill_none _ 0)
 
 pub loop-i-preserved : goal.loop-i-preserved
-loop-i-preserved c =
-    (
-      search rules,
-      simp length-set c.loop-i.invariant.1,
-      ap (λ (l : List ℕ). set l c.loop-i.i 0) c.loop-i.invariant.2
-          ∙ fill_more c.loop-i.i 0 c.args.marks.now (omega arith),
-    )
+loop-i-preserved c = (
+  search rules,
+  simp length-set c.loop-i.invariant.1,
+  ap (λ (l : List ℕ). set l c.loop-i.i 0) c.loop-i.invariant.2
+      ∙ fill_more c.loop-i.i 0 c.args.marks.now (omega arith),
+)
 
 pub returns : goal.returns
 returns c = c.loop-i.invariant.2 ∙ filled c.args.marks.now 0 c.loop-i.i (omega arith)

@@ -1,4 +1,4 @@
-use Prim.Native.Nat.{ℕ, ◌-◌}
+use Prim.Native.Nat.{ℕ}
 use mathlib.Core.Path.{sym, ap, ap₂, ◌∙◌}
 use mathlib.Core.Bool.{◌||◌}
 use native.Mathlib.Omega.{arith}
@@ -30,16 +30,15 @@ returns-then-mark_at-gt0 c =
     (omega (arith, c.if-mark_at-gt0.true)))))
 
 pub loop-k-preserved : goal.loop-k-preserved
-loop-k-preserved c =
-    (
-      search rules,
-      c.loop-k.invariant.1,
-      c.loop-k.invariant.2
-          ∙ rest_miss _ _ _ (search rules)
-          (ap₂ ◌||◌ (not_joined_miss _ _ _ c.loop-k.invariant.1 c.link_by-l.ensures c.if-m-l.false)
-          (marked_miss (c.mark_at.ensures ∙ ap (λ (l : ℕ). at c.args.used.now l) c.link_by-l.ensures)
-          (omega (arith, c.if-mark_at-gt0.false)))),
-    )
+loop-k-preserved c = (
+  search rules,
+  c.loop-k.invariant.1,
+  c.loop-k.invariant.2
+      ∙ rest_miss _ _ _ (search rules)
+      (ap₂ ◌||◌ (not_joined_miss _ _ _ c.loop-k.invariant.1 c.link_by-l.ensures c.if-m-l.false)
+      (marked_miss (c.mark_at.ensures ∙ ap (λ (l : ℕ). at c.args.used.now l) c.link_by-l.ensures)
+      (omega (arith, c.if-mark_at-gt0.false)))),
+)
 
 pub returns : goal.returns
 returns c = sym (c.loop-k.invariant.2 ∙ rest_end _ _ _ (search rules))

@@ -1,4 +1,3 @@
-use Prim.Native.Nat.{◌-◌}
 use mathlib.Core.Path.{sym, ◌∙◌}
 use borrow.Author.Rules.{rules}
 use Rattle.shape.proofs.Tests.{not_joined_hit, not_joined_miss}
@@ -17,13 +16,12 @@ returns-then-m-link_by c =
     (not_joined_hit _ _ _ c.loop-k.invariant.1 c.link_by.ensures c.if-m-link_by.true))
 
 pub loop-k-preserved : goal.loop-k-preserved
-loop-k-preserved c =
-    (
-      search rules,
-      c.loop-k.invariant.1,
-      c.loop-k.invariant.2
-          ∙ rest_miss _ _ _ (search rules) (not_joined_miss _ _ _ c.loop-k.invariant.1 c.link_by.ensures c.if-m-link_by.false),
-    )
+loop-k-preserved c = (
+  search rules,
+  c.loop-k.invariant.1,
+  c.loop-k.invariant.2
+      ∙ rest_miss _ _ _ (search rules) (not_joined_miss _ _ _ c.loop-k.invariant.1 c.link_by.ensures c.if-m-link_by.false),
+)
 
 pub returns : goal.returns
 returns c = sym (c.loop-k.invariant.2 ∙ rest_end _ _ _ (search rules))

@@ -1,4 +1,3 @@
-use Prim.Native.Nat.{◌-◌}
 use mathlib.Core.Path.{refl, sym, ◌∙◌}
 use Rattle.mondschein.proofs.Search.{rest_begin, rest_hit, rest_miss, rest_end}
 use Rattle.shape.proofs.Marks.{marks_begin, marks_more}
@@ -17,14 +16,13 @@ returns-then-among c =
     sym (c.loop-k.invariant.3 ∙ rest_hit _ _ _ c.loop-k-test.true (sym c.among.ensures ∙ c.if-among.true))
 
 pub loop-k-preserved : goal.loop-k-preserved
-loop-k-preserved c =
-    (
-      marks_more c.args.ear.now c.loop-k.k c.loop-k.marks c.loop-k.invariant.0 c.mark.ensures,
-      search rules,
-      search rules,
-      c.loop-k.invariant.3
-          ∙ rest_miss _ _ _ c.loop-k-test.true (sym c.among.ensures ∙ c.if-among.false),
-    )
+loop-k-preserved c = (
+  marks_more c.args.ear.now c.loop-k.k c.loop-k.marks c.loop-k.invariant.0 c.mark.ensures,
+  search rules,
+  search rules,
+  c.loop-k.invariant.3
+      ∙ rest_miss _ _ _ c.loop-k-test.true (sym c.among.ensures ∙ c.if-among.false),
+)
 
 pub returns : goal.returns
 returns c = sym (c.loop-k.invariant.3 ∙ rest_end _ _ _ c.loop-k-test.false)

@@ -1,4 +1,3 @@
-use Prim.Native.Nat.{◌-◌}
 use mathlib.Core.Path.{◌≡◌, sym, ap, ◌∙◌}
 use borrow.Author.Tests.{eq-eqb, ne_eqb}
 use borrow.Author.Rules.{rules}
@@ -23,7 +22,7 @@ pub loop-k-preserved : goal.loop-k-preserved
 loop-k-preserved c =
     let e : cut_off_at c.args.n c.args.last c.args.links.now c.args.births.now c.args.ear.now c.args.new.now c.loop-k.k ≡ false =
     elim c.if-v-last.branch [
-      then-v-last+else-not-unborn_neighbour w ↦
+      | then-v-last+else-not-unborn_neighbour w ↦
           and_passed _ _ (ap not (ne_eqb _ _ w.if-v-last.true)) ∙ ap not (sym w.unborn_neighbour.ensures ∙ w.if-not-unborn_neighbour.false)
       | else-v-last w ↦ and_failed _ _ (ap not (eq-eqb _ _ w.if-v-last.false))
     ] in

@@ -1,4 +1,3 @@
-use Prim.Native.Nat.{◌-◌}
 use mathlib.Core.Path.{◌≡◌, sym, ap, ◌∙◌}
 use borrow.Author.Tests.{eq-eqb, ne_eqb}
 use borrow.Author.Rules.{rules}
@@ -27,7 +26,7 @@ pub loop-x-preserved : goal.loop-x-preserved
 loop-x-preserved c =
     let e : other c.args.last c.args.births.now c.args.ear.now c.loop-x.x ≡ false =
     elim c.if-x-last.branch [
-      then-x-last+else-unborn w ↦ and_passed _ _ (ap not (ne_eqb _ _ w.if-x-last.true)) ∙ sym w.unborn.ensures ∙ w.if-unborn.false
+      | then-x-last+else-unborn w ↦ and_passed _ _ (ap not (ne_eqb _ _ w.if-x-last.true)) ∙ sym w.unborn.ensures ∙ w.if-unborn.false
       | else-x-last w ↦ and_failed _ _ (ap not (eq-eqb _ _ w.if-x-last.false))
     ] in
     (search rules, c.loop-x.invariant.1 ∙ rest_miss _ _ _ c.loop-x-test.true e)

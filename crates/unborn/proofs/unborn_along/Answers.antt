@@ -1,4 +1,3 @@
-use Prim.Native.Nat.{◌-◌}
 use mathlib.Core.Path.{refl, sym, ap, ◌∙◌}
 use native.Mathlib.Omega.{arith}
 use Rattle.mondschein.specs.Network.{size}
@@ -42,13 +41,12 @@ loop-h-smaller c =
     )
 
 pub loop-h-preserved : goal.loop-h-preserved
-loop-h-preserved c =
-    (
-      follow_miss (table_of c.args.links.now) c.args.index.now c.requires.0 c.args.v c.requires.1 (sought c.args.n c.args.births.now c.args.ear.now)
-          c.loop-h.h c.loop-h.invariant.0 (omega (arith, c.loop-h-test.true, c.loop-h.invariant.1))
-          (ap (sought c.args.n c.args.births.now c.args.ear.now) (sym c.far_end.ensures) ∙ sym c.unborn_below.ensures ∙ c.if-unborn_below.false),
-      c.loop-h.invariant.1,
-    )
+loop-h-preserved c = (
+  follow_miss (table_of c.args.links.now) c.args.index.now c.requires.0 c.args.v c.requires.1 (sought c.args.n c.args.births.now c.args.ear.now)
+      c.loop-h.h c.loop-h.invariant.0 (omega (arith, c.loop-h-test.true, c.loop-h.invariant.1))
+      (ap (sought c.args.n c.args.births.now c.args.ear.now) (sym c.far_end.ensures) ∙ sym c.unborn_below.ensures ∙ c.if-unborn_below.false),
+  c.loop-h.invariant.1,
+)
 
 pub returns : goal.returns
 returns c =
