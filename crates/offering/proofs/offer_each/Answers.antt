@@ -55,7 +55,7 @@ returns-in-Refused c =
     (answered _ c.in-Refused.is) ducts tree3
 
 pub overflow_add-accepted : goal.overflow_add-accepted
-overflow_add-accepted c = omega (arith, c.loop-next-test.true, c.loop-next.invariant.0.counted, c.well-formed)
+overflow_add-accepted c = omega (arith, c.loop-next-test.true, c.loop-next.invariant.0.counted, c.well_formed)
 
 pub loop-next-smaller : goal.loop-next-smaller
 loop-next-smaller c = omega (arith, c.loop-next-test.true, c.part_at-part.ensures.later, c.part_at-part.ensures.within)

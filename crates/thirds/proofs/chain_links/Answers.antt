@@ -12,13 +12,12 @@ unfolding size
 loop-i-init c = (c.requires.0, omega arith, refl, refl)
 
 pub chain_link-requires : goal.chain_link-requires
-chain_link-requires c =
-    (
-      subst (λ (k : ℕ). ChainedFrom c.args.links.now (birth_read c.args.births.now) k c.loop-i.heads c.loop-i.nexts)
-          (omega (arith, c.loop-i-test.true)) c.loop-i.invariant.0,
-      omega (arith, c.loop-i-test.true, c.loop-i.invariant.1),
-      c.requires.1,
-    )
+chain_link-requires c = (
+  subst (λ (k : ℕ). ChainedFrom c.args.links.now (birth_read c.args.births.now) k c.loop-i.heads c.loop-i.nexts)
+      (omega (arith, c.loop-i-test.true)) c.loop-i.invariant.0,
+  omega (arith, c.loop-i-test.true, c.loop-i.invariant.1),
+  c.requires.1,
+)
 
 pub loop-i-preserved : goal.loop-i-preserved
 loop-i-preserved c =

@@ -1,4 +1,4 @@
-use Prim.Native.Nat.{◌-◌, ◌/◌}
+use Prim.Native.Nat.{◌/◌}
 use mathlib.Core.Path.{refl, ◌∙◌}
 use native.Mathlib.Omega.{arith}
 use Rattle.mondschein.specs.Network.{size}
@@ -35,15 +35,14 @@ loop-h-smaller c =
     )
 
 pub loop-h-preserved : goal.loop-h-preserved
-loop-h-preserved c =
-    (
-      chain_next c.args.n c.args.links.now c.args.nexts.now c.args.start c.args.row.now c.args.dist.now c.loop-h.h c.loop-h.row
-          c.loop-h.dist c.loop-h.invariant.0 (omega (arith, c.loop-h-test.true, c.loop-h.invariant.3))
-          c.follow_half.ensures,
-      search rules,
-      search rules,
-      c.loop-h.invariant.3,
-    )
+loop-h-preserved c = (
+  chain_next c.args.n c.args.links.now c.args.nexts.now c.args.start c.args.row.now c.args.dist.now c.loop-h.h c.loop-h.row
+      c.loop-h.dist c.loop-h.invariant.0 (omega (arith, c.loop-h-test.true, c.loop-h.invariant.3))
+      c.follow_half.ensures,
+  search rules,
+  search rules,
+  c.loop-h.invariant.3,
+)
 
 pub returns : goal.returns
 returns c =

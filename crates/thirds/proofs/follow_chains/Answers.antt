@@ -22,15 +22,14 @@ follow_chain-requires c =
     (c.loop-k.invariant.2 ∙ c.requires.0, c.loop-k.invariant.3 ∙ c.requires.1, c.requires.3)
 
 pub loop-k-preserved : goal.loop-k-preserved
-loop-k-preserved c =
-    (
-      chains_more c.args.n c.args.links.now c.args.heads.now c.args.nexts.now c.args.row.now c.args.dist.now c.loop-k.k _
-          (omega (arith, c.loop-k-test.true)) (omega (arith, c.loop-k-test.true, c.loop-k.invariant.1)) c.loop-k.invariant.0
-          c.follow_chain.ensures,
-      omega (arith, c.loop-k.invariant.1),
-      search rules,
-      search rules,
-    )
+loop-k-preserved c = (
+  chains_more c.args.n c.args.links.now c.args.heads.now c.args.nexts.now c.args.row.now c.args.dist.now c.loop-k.k _
+      (omega (arith, c.loop-k-test.true)) (omega (arith, c.loop-k-test.true, c.loop-k.invariant.1)) c.loop-k.invariant.0
+      c.follow_chain.ensures,
+  omega (arith, c.loop-k.invariant.1),
+  search rules,
+  search rules,
+)
 
 pub returns : goal.returns
 returns c =

@@ -12,13 +12,12 @@ chain_links-requires c =
     (chained_none c.args.links.now (birth_read c.args.births.now) c.requires.2 refl refl, c.requires.2)
 
 pub follow_chains-requires : goal.follow_chains-requires
-follow_chains-requires c =
-    (
-      ap length c.fill.ensures ∙ length-replicate (length c.args.row.now) c.args.n ∙ c.requires.0,
-      ap length c.store.ensures ∙ length-set (replicate 1024 c.args.n) c.args.last _ ∙ length-replicate 1024 c.args.n,
-      c.chain_links.ensures.long.0,
-      chained_linked c.args.links.now (birth_read c.args.births.now) c.requires.2 c.chain_links.ensures,
-    )
+follow_chains-requires c = (
+  ap length c.fill.ensures ∙ length-replicate (length c.args.row.now) c.args.n ∙ c.requires.0,
+  ap length c.store.ensures ∙ length-set (replicate 1024 c.args.n) c.args.last _ ∙ length-replicate 1024 c.args.n,
+  c.chain_links.ensures.long.0,
+  chained_linked c.args.links.now (birth_read c.args.births.now) c.requires.2 c.chain_links.ensures,
+)
 
 pub returns : goal.returns
 returns c =
