@@ -1,4 +1,4 @@
--- Note 3 of document 02: which answers the order of checks changes, of any marks (`only-moved`) and after accepted ears (`answers-changed`).
+-- Note 3 of document 02: which answers the order of checks changes, of any marks (`only_moved`) and after accepted ears (`answers_changed`).
 -- A used link has two born switches, and of a long ear one of them stands between the ends.
 use mathlib.Core.Path.{◌≡◌, refl, sym, ap, ◌∙◌}
 use mathlib.Core.Logic.{◌⊎◌, inl, inr, ⊎_elim}

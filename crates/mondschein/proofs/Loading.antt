@@ -1,5 +1,5 @@
 -- Loading succeeds exactly when the network is proper, and gives N and M.
--- `loading-given` and `proper-loading` are its two halves.
+-- `loading_given` and `proper_loading` are its two halves.
 use mathlib.Core.Path.{◌≡◌, refl, sym, ap}
 use mathlib.Core.Logic.{inl, inr, ⊎_elim}
 use mathlib.Core.Bool.{Bool, not, ◌||◌}

@@ -1,4 +1,4 @@
--- Loading a flat table of link records is loading their ends and their ducts: `records-loaded`.
+-- Loading a flat table of link records is loading their ends and their ducts: `records_loaded`.
 -- Records that there is no room for are refused like any table of so many links.
 use mathlib.Core.Path.{◌≡◌, refl, sym, ap, ◌∙◌}
 use mathlib.Core.Logic.{⊎_elim}

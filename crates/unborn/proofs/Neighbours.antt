@@ -1,5 +1,5 @@
 -- What the code's comparisons say of the switches that are still unborn after an ear, and of the links that lead to them.
--- `scan` turns a search over switches into one scan of the links; `along-hit` and `along-end` into one along the half-links of a switch.
+-- `scan` turns a search over switches into one scan of the links; `along_hit` and `along_end` into one along the half-links of a switch.
 use mathlib.Core.Path.{◌≡◌, refl, sym, ap, ◌∙◌, subst}
 use mathlib.Core.Logic.{inl, inr, ⊎_elim, ◌≢◌}
 use mathlib.Core.Bool.{Bool, true, false, not, ◌&&◌, ◌||◌}

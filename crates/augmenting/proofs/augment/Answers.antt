@@ -17,20 +17,18 @@ returns-then-u-k c =
     ∙ sym (c.loop-j.invariant.1 ∙ augment_stop c.args.k c.args.heads.now c.args.lefts.now c.loop-j.j c.loop-j-test.true c.loop-j.next c.loop-j.w (sym c.entry-h.ensures ∙ c.if-h-w.true) (sym c.entry-u.ensures ∙ c.if-u-k.true))
 
 pub loop-j-preserved-then-h-w : goal.loop-j-preserved-then-h-w
-loop-j-preserved-then-h-w c =
-    (
-      simp (c.store.ensures, length-set) c.loop-j.invariant.0,
-      c.loop-j.invariant.1
-          ∙ augment_on c.args.k c.args.heads.now c.args.lefts.now c.loop-j.j c.loop-j-test.true c.loop-j.next c.loop-j.w (sym c.entry-h.ensures ∙ c.if-h-w.true) (λ q. c.if-u-k.false (c.entry-u.ensures ∙ q))
-          ∙ ap₂ (augment c.args.k c.args.heads.now c.args.lefts.now (c.loop-j.j - 1)) (sym (c.store.ensures ∙ ap (λ (x : ℕ). set c.loop-j.next x c.loop-j.w) c.entry-u.ensures)) (sym (c.entry-old.ensures ∙ ap (at c.loop-j.next) c.entry-u.ensures)),
-    )
+loop-j-preserved-then-h-w c = (
+  simp (c.store.ensures, length-set) c.loop-j.invariant.0,
+  c.loop-j.invariant.1
+      ∙ augment_on c.args.k c.args.heads.now c.args.lefts.now c.loop-j.j c.loop-j-test.true c.loop-j.next c.loop-j.w (sym c.entry-h.ensures ∙ c.if-h-w.true) (λ q. c.if-u-k.false (c.entry-u.ensures ∙ q))
+      ∙ ap₂ (augment c.args.k c.args.heads.now c.args.lefts.now (c.loop-j.j - 1)) (sym (c.store.ensures ∙ ap (λ (x : ℕ). set c.loop-j.next x c.loop-j.w) c.entry-u.ensures)) (sym (c.entry-old.ensures ∙ ap (at c.loop-j.next) c.entry-u.ensures)),
+)
 
 pub loop-j-preserved : goal.loop-j-preserved
-loop-j-preserved c =
-    (
-      c.loop-j.invariant.0,
-      c.loop-j.invariant.1 ∙ augment_past c.args.k c.args.heads.now c.args.lefts.now c.loop-j.j c.loop-j-test.true c.loop-j.next c.loop-j.w (λ q. c.if-h-w.false (c.entry-h.ensures ∙ q)),
-    )
+loop-j-preserved c = (
+  c.loop-j.invariant.0,
+  c.loop-j.invariant.1 ∙ augment_past c.args.k c.args.heads.now c.args.lefts.now c.loop-j.j c.loop-j-test.true c.loop-j.next c.loop-j.w (λ q. c.if-h-w.false (c.entry-h.ensures ∙ q)),
+)
 
 pub returns : goal.returns
 returns c =

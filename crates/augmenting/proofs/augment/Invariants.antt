@@ -1,5 +1,4 @@
 use mathlib.Core.Path.{◌≡◌}
-use Prim.Native.Nat.{◌-◌}
 use lib.ListN.{length}
 use Rattle.disjoint.specs.Matching.{augment}
 use Rattle.augmenting.proofs.augment.Given as goal

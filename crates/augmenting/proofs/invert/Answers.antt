@@ -1,5 +1,4 @@
 use mathlib.Core.Path.{◌≡◌, refl, ap, ◌∙◌}
-use Prim.Native.Nat.{◌-◌}
 use native.Mathlib.Omega.{arith}
 use lib.ListN.{length-set}
 use Rattle.mondschein.specs.Network.{at}
@@ -12,12 +11,11 @@ unfolding assigned
 loop-u-init c = (refl, omega arith, refl)
 
 pub loop-u-preserved : goal.loop-u-preserved
-loop-u-preserved c =
-    (
-      simp (c.store.ensures, length-set) c.loop-u.invariant.0,
-      omega (arith, c.loop-u-test.true),
-      assigned_more c.args.previous.now (at c.args.next.now) (λ u. u) c.loop-u.u c.loop-u.invariant.2 c.store.ensures c.entry.ensures refl,
-    )
+loop-u-preserved c = (
+  simp (c.store.ensures, length-set) c.loop-u.invariant.0,
+  omega (arith, c.loop-u-test.true),
+  assigned_more c.args.previous.now (at c.args.next.now) (λ u. u) c.loop-u.u c.loop-u.invariant.2 c.store.ensures c.entry.ensures refl,
+)
 
 pub returns : goal.returns
 returns c =

@@ -1,6 +1,6 @@
 use mathlib.Core.Path.{refl, sym, ap, ◌∙◌}
 use mathlib.Core.Bool.{false}
-use Prim.Native.Nat.{ℕ, ◌+◌, ◌-◌, ◌*◌, ◌<◌}
+use Prim.Native.Nat.{ℕ, ◌+◌, ◌*◌, ◌<◌}
 use native.Mathlib.Omega.{arith}
 use Rattle.mondschein.specs.Network.{at, size}
 use Rattle.network.specs.Load.{table_of}
@@ -15,15 +15,14 @@ bounds-index-v c = omega (arith, c.requires.0.places, c.requires.1)
 
 pub loop-h-init : goal.loop-h-init
 unfolding size
-loop-h-init c =
-    (
-      refl,
-      refl,
-      refl,
-      refl,
-      follow_begin (table_of c.args.links.now) c.args.index.now c.requires.0 c.args.v c.requires.1 (λ _. false),
-      from_begin (table_of c.args.links.now) c.args.s c.args.t c.args.k c.args.v c.args.index.now c.requires.0 c.requires.1 (explored_of c.args.mark.now c.args.heads.now c.args.lefts.now c.args.count),
-    )
+loop-h-init c = (
+  refl,
+  refl,
+  refl,
+  refl,
+  follow_begin (table_of c.args.links.now) c.args.index.now c.requires.0 c.args.v c.requires.1 (λ _. false),
+  from_begin (table_of c.args.links.now) c.args.s c.args.t c.args.k c.args.v c.args.index.now c.requires.0 c.requires.1 (explored_of c.args.mark.now c.args.heads.now c.args.lefts.now c.args.count),
+)
 
 pub far_end-requires : goal.far_end-requires
 unfolding size

@@ -1,4 +1,3 @@
-use Prim.Native.Nat.{◌-◌}
 use native.Mathlib.Omega.{arith}
 use Rattle.cutting.proofs.Counting.{seeking_begin, seeking_le, seeking_more, seeking_hit, seeking_end}
 use Rattle.cutting.proofs.find_ear.Goals as goal

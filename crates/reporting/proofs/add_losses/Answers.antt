@@ -13,10 +13,9 @@ returns-then-top-eq0 c =
     (none 2 (omega arith) c.args.two.now, none 3 (omega arith) c.args.three.now)
 
 pub returns : goal.returns
-returns c =
-    (
-      losses_done c.args.n c.args.root c.args.links.now c.args.ducts.now c.args.row1.now c.args.row2.now c.args.row3.now 2 (omega arith) c.args.two.now c.highest-top.ensures (omega arith)
-          c.ducts_along-ducts1.ensures c.ducts_along-ducts2.ensures c.ducts_along-ducts3.ensures c.add_switches.ensures.0,
-      losses_done c.args.n c.args.root c.args.links.now c.args.ducts.now c.args.row1.now c.args.row2.now c.args.row3.now 3 (omega arith) c.args.three.now c.highest-top.ensures (omega arith)
-          c.ducts_along-ducts1.ensures c.ducts_along-ducts2.ensures c.ducts_along-ducts3.ensures c.add_switches.ensures.1,
-    )
+returns c = (
+  losses_done c.args.n c.args.root c.args.links.now c.args.ducts.now c.args.row1.now c.args.row2.now c.args.row3.now 2 (omega arith) c.args.two.now c.highest-top.ensures (omega arith)
+      c.ducts_along-ducts1.ensures c.ducts_along-ducts2.ensures c.ducts_along-ducts3.ensures c.add_switches.ensures.0,
+  losses_done c.args.n c.args.root c.args.links.now c.args.ducts.now c.args.row1.now c.args.row2.now c.args.row3.now 3 (omega arith) c.args.three.now c.highest-top.ensures (omega arith)
+      c.ducts_along-ducts1.ensures c.ducts_along-ducts2.ensures c.ducts_along-ducts3.ensures c.add_switches.ensures.1,
+)

@@ -1,4 +1,3 @@
-use Prim.Native.Nat.{◌-◌}
 use Rattle.reporting.proofs.Ducts.{Found}
 use Rattle.reporting.proofs.ducts_along.Given as goal
 

@@ -1,4 +1,4 @@
-use Prim.Native.Nat.{◌≤◌, ◌-◌}
+use Prim.Native.Nat.{◌≤◌}
 use native.Mathlib.Omega.{arith}
 use borrow.Author.Rules.{rules}
 use Rattle.mondschein.specs.Network.{at}
@@ -11,7 +11,7 @@ loop-i-init c = (search rules, λ j l. absurd (omega arith))
 
 pub loop-i-preserved : goal.loop-i-preserved
 loop-i-preserved c =
-    let h : (c.loop-i.top ≤ c.if-top-ducts.top) × (at c.args.ducts.now c.loop-i.i ≤ c.if-top-ducts.top) = 
+    let h : (c.loop-i.top ≤ c.if-top-ducts.top) × (at c.args.ducts.now c.loop-i.i ≤ c.if-top-ducts.top) =
     elim c.if-top-ducts.branch [ then-top-ducts w ↦ (omega arith, omega arith) | else-top-ducts w ↦ (omega arith, omega arith) ] in
     (search rules, top_next c.args.ducts.now c.loop-i.i c.loop-i.invariant.1 h.0 h.1)
 

@@ -29,11 +29,11 @@ returns-then-v-t c = let e = write_end c.args.t (at c.args.next.now) c.loop-f.ou
 
 pub loop-f-preserved : goal.loop-f-preserved
 loop-f-preserved c = let e = write_on c.args.t (at c.args.next.now) c.loop-f.out c.loop-f.i c.loop-f.f c.loop-f.v c.loop-f-test.true c.if-v-t.false in (
-      simp (c.store-in-loop-f.ensures, length-set) c.loop-f.invariant.0,
-      omega (arith, c.loop-f.invariant.1, c.loop-f-test.true),
-      rw (c.store-in-loop-f.ensures, c.entry-v-in-loop-f.ensures) (c.loop-f.invariant.2 ∙ e.0),
-      rw c.entry-v-in-loop-f.ensures (c.loop-f.invariant.3 ∙ e.1),
-    )
+  simp (c.store-in-loop-f.ensures, length-set) c.loop-f.invariant.0,
+  omega (arith, c.loop-f.invariant.1, c.loop-f-test.true),
+  rw (c.store-in-loop-f.ensures, c.entry-v-in-loop-f.ensures) (c.loop-f.invariant.2 ∙ e.0),
+  rw c.entry-v-in-loop-f.ensures (c.loop-f.invariant.3 ∙ e.1),
+)
 
 pub shape_of-out : goal.shape_of-out
 shape_of-out c =

@@ -17,8 +17,7 @@ returns-then-len-eq2 c =
 
 pub returns : goal.returns
 returns c =
-    let o = take c.args.born c.args.order.now in
-    (
+    let o = take c.args.born c.args.order.now in (
       births_later o c.args.ear.now c.args.births.now c.args.b c.set_births.ensures,
       tree1_later o c.args.ear.now c.args.tree1.now c.place_of-place.ensures c.set_later_parents.ensures.0,
       tree2_later o c.args.ear.now c.args.tree2.now c.place_of-place.ensures c.set_later_parents.ensures.1,

@@ -1,4 +1,4 @@
-use Prim.Native.Nat.{ℕ, pred, ◌-◌}
+use Prim.Native.Nat.{ℕ, pred}
 use mathlib.Core.Path.{◌≡◌, refl, ap, ◌∙◌}
 use native.Mathlib.Omega.{arith}
 use native.Mathlib.Numerals.{add-one}
@@ -18,12 +18,11 @@ pub link_by-l-requires : goal.link_by-l-requires
 link_by-l-requires c = c.requires
 
 pub loop-k-preserved : goal.loop-k-preserved
-loop-k-preserved c =
-    (
-      omega (arith, c.loop-k-test.true),
-      assigned_more c.args.used.now _ _ c.loop-k.k c.loop-k.invariant.1 c.mark.ensures
-          (c.link_by-l.ensures ∙ ap (λ (j : ℕ). link_of (table_of c.args.links.now) (at c.args.ear.now c.loop-k.k) (at c.args.ear.now j)) (add-one c.loop-k.k)) refl,
-    )
+loop-k-preserved c = (
+  omega (arith, c.loop-k-test.true),
+  assigned_more c.args.used.now _ _ c.loop-k.k c.loop-k.invariant.1 c.mark.ensures
+      (c.link_by-l.ensures ∙ ap (λ (j : ℕ). link_of (table_of c.args.links.now) (at c.args.ear.now c.loop-k.k) (at c.args.ear.now j)) (add-one c.loop-k.k)) refl,
+)
 
 pub shape_of-used : goal.shape_of-used
 shape_of-used c = ap length c.loop-k.invariant.1 ∙ assigned_length _ _ _ _

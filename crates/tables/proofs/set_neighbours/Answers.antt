@@ -1,5 +1,5 @@
 use borrow.Author.Rules.{rules}
-use Prim.Native.Nat.{pred, ◌-◌}
+use Prim.Native.Nat.{pred}
 use mathlib.Core.Path.{◌≡◌, refl, ap, ◌∙◌}
 use native.Mathlib.Omega.{arith}
 use native.Mathlib.Numerals.{add-one}
@@ -15,12 +15,11 @@ unfolding assigned
 loop-k-init c = search rules
 
 pub loop-k-preserved : goal.loop-k-preserved
-loop-k-preserved c =
-    (
-      omega (arith, c.loop-k-test.true),
-      assigned_more c.args.row.now _ _ c.loop-k.k c.loop-k.invariant.1
-          c.store.ensures (ap (at c.args.ear.now) (add-one c.loop-k.k)) refl,
-    )
+loop-k-preserved c = (
+  omega (arith, c.loop-k-test.true),
+  assigned_more c.args.row.now _ _ c.loop-k.k c.loop-k.invariant.1
+      c.store.ensures (ap (at c.args.ear.now) (add-one c.loop-k.k)) refl,
+)
 
 pub shape_of-row : goal.shape_of-row
 shape_of-row c = ap length c.loop-k.invariant.1 ∙ assigned_length _ _ _ _
