@@ -9,10 +9,8 @@ use native.Mathlib.Numerals.{add-one}
 use lib.ListN.{length, take, set, get_or, replicate, length-append, length-replicate}
 use lib.Seq.{length-take-le, take_all, take-suc, set_out}
 use borrow.Author.Tests.{lt-ltb, le-ltb}
-use Rattle.mondschein.specs.Outcome.{over}
 use Rattle.mondschein.proofs.Logic.{less?}
 use Rattle.records.specs.declared.Link.{Link}
-use Rattle.records.specs.declared.Flat.{Flat}
 use Rattle.records.specs.Records.{ends_of, ducts_of, fitted, flat_with, flat_of, numbers_of}
 
 pub ends_length : (ls : List Link) → length (ends_of ls) ≡ 2 * length ls

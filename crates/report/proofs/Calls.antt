@@ -174,7 +174,7 @@ plans ps r css = added_from session_program Report empty_report reported_by losi
 counts_after : (ps : List Closed) (r : Report) → Counts ps r → (css : List (List Call)) → Counts (plans ps r css) (reported r css)
 unfolding report_from added_from
 counts_after ps r k [] = k
-counts_after ps r k (cs ∷ css) = counts_after _ (reported_by r (session_after cs)).after (counts_next ps r k cs (history session_program cs) refl) css
+counts_after ps r k (cs ∷ css) = counts_after (added_next (reported_by r (session_after cs)).answer (history session_program cs) ps) (reported_by r (session_after cs)).after (counts_next ps r k cs (history session_program cs) refl) css
 
 -- a closed session, by how many are added
 module _ (ps : List Closed) (r : Report) (k : Counts ps r) (cs : List Call) (p : Closed) (h : history session_program cs ≡ closed p) where

@@ -19,12 +19,11 @@ judge-answer-requires c =
     index_lent c.args.links.now c.args.st.m c.least-numbers.ensures c.args.index.now c.requires.1
 
 pub accept-counts-requires : goal.accept-counts-requires
-accept-counts-requires c =
-    (
-      accepted_two _ _ _ _ _ _ (sym c.judge-answer.ensures ∙ ap ear_answer c.in-New.is),
-      c.requires.0,
-      index_lent c.args.links.now c.args.st.m c.least-numbers.ensures c.args.index.now c.requires.1,
-    )
+accept-counts-requires c = (
+  accepted_two _ _ _ _ _ _ (sym c.judge-answer.ensures ∙ ap ear_answer c.in-New.is),
+  c.requires.0,
+  index_lent c.args.links.now c.args.st.m c.least-numbers.ensures c.args.index.now c.requires.1,
+)
 
 pub returns-in-Refused : goal.returns-in-Refused
 returns-in-Refused c =

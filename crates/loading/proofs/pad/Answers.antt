@@ -1,4 +1,4 @@
-use Prim.Native.Nat.{ℕ, ◌-◌}
+use Prim.Native.Nat.{ℕ}
 use mathlib.Core.Path.{refl, ap, ◌∙◌}
 use mathlib.Core.List.{List}
 use native.Mathlib.Omega.{arith}
@@ -14,14 +14,13 @@ loop-i-init c =
     (omega arith, omega (arith, q, c.requires), refl, copied_none (length c.args.row.now) c.args.numbers.now _ c.fill.ensures)
 
 pub loop-i-preserved : goal.loop-i-preserved
-loop-i-preserved c =
-    (
-      search rules,
-      c.loop-i.invariant.1,
-      simp length-set c.loop-i.invariant.2,
-      ap (λ (t : List ℕ). set t c.loop-i.i (get_or c.args.numbers.now c.loop-i.i 0)) c.loop-i.invariant.3
-          ∙ copied_more _ c.args.numbers.now c.loop-i.i c.loop-i-test.true (omega arith),
-    )
+loop-i-preserved c = (
+  search rules,
+  c.loop-i.invariant.1,
+  simp length-set c.loop-i.invariant.2,
+  ap (λ (t : List ℕ). set t c.loop-i.i (get_or c.args.numbers.now c.loop-i.i 0)) c.loop-i.invariant.3
+      ∙ copied_more _ c.args.numbers.now c.loop-i.i c.loop-i-test.true (omega arith),
+)
 
 pub shape_of-row : goal.shape_of-row
 shape_of-row c =

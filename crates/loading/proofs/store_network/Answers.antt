@@ -46,9 +46,8 @@ pub shape_of-index : goal.shape_of-index
 shape_of-index c = c.make_index.auto.index
 
 pub returns : goal.returns
-returns c =
-    (
-      stored c.requires.1 c.clear_tables.ensures c.args.n c.args.links.now c.args.ducts.now c.args.root c.args.first c.args.last c.pad.ensures
-          (c.pad_ducts.ensures ∙ ap (padded _) (least_take (length c.args.links.now / 2) c.args.ducts.now c.least-given.ensures)),
-      index_stored c.args.n c.args.links.now c.args.root c.args.first c.args.last _ c.requires.0 c.pad.ensures c.make_index.ensures,
-    )
+returns c = (
+  stored c.requires.1 c.clear_tables.ensures c.args.n c.args.links.now c.args.ducts.now c.args.root c.args.first c.args.last c.pad.ensures
+      (c.pad_ducts.ensures ∙ ap (padded _) (least_take (length c.args.links.now / 2) c.args.ducts.now c.least-given.ensures)),
+  index_stored c.args.n c.args.links.now c.args.root c.args.first c.args.last _ c.requires.0 c.pad.ensures c.make_index.ensures,
+)

@@ -1,8 +1,5 @@
 use mathlib.Core.Path.{refl, sym}
 use lib.Seq.{set_out}
-use Rattle.records.proofs.put.Reads as reads
-use Rattle.records.proofs.put.Lts as lts
-use Rattle.records.proofs.put_ends.Reads as put-ends-reads
 use Rattle.records.proofs.put.Goals as goal
 
 pub returns-then-i-ducts : goal.returns-then-i-ducts

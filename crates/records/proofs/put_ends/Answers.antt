@@ -3,9 +3,6 @@ use mathlib.Core.List.{List}
 use Prim.Native.Nat.{ℕ, ◌+◌, ◌*◌}
 use lib.ListN.{set}
 use Rattle.records.proofs.Records.{ends_out}
-use Rattle.records.proofs.put_ends.Reads as reads
-use Rattle.records.proofs.put_ends.Lts as lts
-use Rattle.records.proofs.store_at.Reads as store-at-reads
 use Rattle.records.proofs.put_ends.Goals as goal
 
 pub returns-then-i-ends : goal.returns-then-i-ends

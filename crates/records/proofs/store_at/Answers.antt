@@ -1,7 +1,5 @@
 use mathlib.Core.Path.{sym}
 use lib.Seq.{set_out}
-use Rattle.records.proofs.store_at.Reads as reads
-use Rattle.records.proofs.store_at.Lts as lts
 use Rattle.records.proofs.store_at.Goals as goal
 
 pub returns-else-i-row : goal.returns-else-i-row

@@ -16,8 +16,7 @@ pub shape_of-out : goal.shape_of-out
 shape_of-out c = c.put_spaced.auto.out ∙ c.put-next.auto.out ∙ c.put-open.auto.out
 
 pub returns : goal.returns
-returns c =
-    (
-      wrote_after _ _ c.args.out.now (wrote_after _ _ c.args.out.now c.put-open.ensures c.put-next.ensures) c.put_spaced.ensures.0,
-      omega (arith, c.put-open.ensures.ended, c.put-next.ensures.ended, c.put_spaced.ensures.1),
-    )
+returns c = (
+  wrote_after _ _ c.args.out.now (wrote_after _ _ c.args.out.now c.put-open.ensures c.put-next.ensures) c.put_spaced.ensures.0,
+  omega (arith, c.put-open.ensures.ended, c.put-next.ensures.ended, c.put_spaced.ensures.1),
+)
