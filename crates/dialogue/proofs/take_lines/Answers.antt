@@ -1,3 +1,4 @@
+use borrow.Author.Tests.{not-false, not-true}
 use Prim.Native.Nat.{◌-◌}
 use mathlib.Core.Logic.{⊎_elim}
 use native.Mathlib.Omega.{arith}
@@ -35,12 +36,12 @@ overflow_add-written c =
 
 pub loop-next-smaller : goal.loop-next-smaller
 loop-next-smaller c =
-    omega (arith, c.hold_line-h.ensures.next_in_bounds.1 (c.if-not-h.false), c.hold_line-h.ensures.next_in_bounds.0, c.loop-next-test.true)
+    omega (arith, c.hold_line-h.ensures.next_in_bounds.1 ((not-false _ c.if-not-h.false)), c.hold_line-h.ensures.next_in_bounds.0, c.loop-next-test.true)
 
 pub loop-next-preserved : goal.loop-next-preserved
 loop-next-preserved c =
     let taken : (LineTaken (holding c.loop-next.reader c.hold_line-h.result) (session_in c.loop-next.state c.loop-next.table c.loop-next.row c.loop-next.used c.loop-next.births c.loop-next.order c.loop-next.tree1 c.loop-next.tree2 c.loop-next.tree3) c.loop-next.links c.loop-next.ducts c.hold_line-h.new.line c.take_line-called.result.reader (session_in c.take_line-called.result.state c.take_line-called.new.table c.take_line-called.new.row c.take_line-called.new.used c.take_line-called.new.births c.take_line-called.new.order c.take_line-called.new.tree1 c.take_line-called.new.tree2 c.take_line-called.new.tree3) c.take_line-called.new.links c.take_line-called.new.ducts c.loop-next.out c.loop-next.written (back c.loop-next.out c.loop-next.written c.take_line-called.new.out) c.take_line-called.result.written) = line_taken (holding c.loop-next.reader c.hold_line-h.result) _ c.loop-next.links c.loop-next.ducts c.hold_line-h.new.line c.take_line-called.result.reader _ _ _ c.loop-next.out c.loop-next.written _ c.take_line-called.result.written c.take_line-called.auto.out c.take_line-called.ensures.takes_line c.take_line-called.ensures.keeps.0 in
-    let ends = c.if-not-h.false in
+    let ends = (not-false _ c.if-not-h.false) in
     let t = taken in
     (
       reached_more c.loop-next.invariant.0 c.over.ensures c.if-over.false c.hold_line-h.result _ c.hold_line-h.ensures.block_after ends c.hold_line-h.ensures.next_in_bounds.0 (c.hold_line-h.ensures.next_in_bounds.1 ends) c.take_line-called.result.reader _ _ _ _ c.take_line-called.result.written t c.least-written.result c.least-written.ensures,
@@ -228,5 +229,5 @@ shape_of-out-then-not-h c = c.loop-next.invariant.1.out_same
 
 pub returns-then-not-h : goal.returns-then-not-h
 returns-then-not-h c =
-    let ends = c.if-not-h.true in
+    let ends = (not-true _ c.if-not-h.true) in
     let all = reached_all c.loop-next.invariant.0 c.over.ensures c.if-over.false c.hold_line-h.result _ c.hold_line-h.ensures.block_after ends in record { takes_lines = reached_held c.loop-next.invariant.0 c.over.ensures c.if-over.false c.hold_line-h.result _ c.hold_line-h.ensures.block_after ends; next_in_bounds = (c.hold_line-h.ensures.next_in_bounds.0, λ g. omega (arith, g, all)); keeps = (c.loop-next.invariant.0.keeps, c.loop-next.invariant.1.numbers_kept, c.loop-next.invariant.3) }

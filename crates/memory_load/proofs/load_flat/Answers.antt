@@ -1,0 +1,113 @@
+use Prim.Native.Nat.{ℕ, ◌≤◌}
+use native.Mathlib.Omega.{arith}
+use mathlib.Core.Path.{◌≡◌, refl, sym, ap, ◌∙◌}
+use mathlib.Core.Bool.{false}
+use lib.ListN.{length, take, length-take}
+use Rattle.mondschein.specs.Network.{Network}
+use Rattle.network.specs.declared.Load.{Load}
+use Rattle.network.specs.Load.{network_of, load_answer}
+use Rattle.records.specs.Records.{numbers_of}
+use Rattle.records.proofs.Records.{numbers_fit}
+use Rattle.session.proofs.Arrays.{ends_sized, ducts_sized}
+use Rattle.in_place.specs.declared.Session.{Session}
+use Rattle.in_place.specs.declared.State.{State}
+use Rattle.in_place.specs.Session.{loaded_by}
+use Rattle.in_place.specs.InPlace.{session_in}
+use Rattle.session.specs.Calls.{called}
+use Rattle.memory.specs.Program.{called_in}
+use Rattle.memory.specs.Memory.{Memory, numbers_by, memory_by, session_at, wrong_lengths}
+use Rattle.memory.proofs.Returns.{load_leaves, lengths_wrong, lengths_right, refusing_call, granting_call, sizes}
+use Rattle.memory_load.proofs.load_flat.Goals as goal
+
+pub returns-then-wrong_lengths : goal.returns-then-wrong_lengths
+returns-then-wrong_lengths c = (lengths_wrong _ _ 0 (sym c.wrong_lengths.ensures ∙ c.if-wrong_lengths.true) refl).returns
+
+pub slice_bounds-ends-end : goal.slice_bounds-ends-end
+slice_bounds-ends-end c =
+    let numbers_within : c.numbers_of-numbers.result ≤ length c.args.flat.ends = omega (arith, c.numbers_of-numbers.ensures, numbers_fit c.args.count, ends_sized c.args.flat c.well_formed.0) in
+    numbers_within
+
+pub slice_bounds-load-end : goal.slice_bounds-load-end
+slice_bounds-load-end c =
+    let numbers_within : c.numbers_of-numbers.result ≤ length c.args.flat.ends = omega (arith, c.numbers_of-numbers.ensures, numbers_fit c.args.count, ends_sized c.args.flat c.well_formed.0) in
+    omega (arith, numbers_within, length-take c.numbers_of-numbers.result c.args.flat.ends)
+
+pub slice_bounds-load-end-2 : goal.slice_bounds-load-end-2
+slice_bounds-load-end-2 c = sym (ducts_sized c.args.flat c.well_formed.0)
+
+pub load-loaded-requires : goal.load-loaded-requires
+load-loaded-requires c =
+    let right_lengths : wrong_lengths (length c.args.links.now) (length c.args.ducts.now) (length c.args.used.now) (length c.args.births.now) (length c.args.order.now) (length c.args.tree1.now) (length c.args.tree2.now) (length c.args.tree3.now) ≡ false = sym c.wrong_lengths.ensures ∙ c.if-wrong_lengths.false in
+    sizes _ _ _ _ _ _ _ _ right_lengths
+
+pub shape_of-links-in-Refused : goal.shape_of-links-in-Refused
+shape_of-links-in-Refused c = c.load-loaded.auto.table
+
+pub shape_of-ducts-in-Refused : goal.shape_of-ducts-in-Refused
+shape_of-ducts-in-Refused c = c.load-loaded.auto.row
+
+pub shape_of-used-in-Refused : goal.shape_of-used-in-Refused
+shape_of-used-in-Refused c = c.load-loaded.auto.used
+
+pub shape_of-births-in-Refused : goal.shape_of-births-in-Refused
+shape_of-births-in-Refused c = c.load-loaded.auto.births
+
+pub shape_of-order-in-Refused : goal.shape_of-order-in-Refused
+shape_of-order-in-Refused c = c.load-loaded.auto.order
+
+pub shape_of-tree1-in-Refused : goal.shape_of-tree1-in-Refused
+shape_of-tree1-in-Refused c = c.load-loaded.auto.tree1
+
+pub shape_of-tree2-in-Refused : goal.shape_of-tree2-in-Refused
+shape_of-tree2-in-Refused c = c.load-loaded.auto.tree2
+
+pub shape_of-tree3-in-Refused : goal.shape_of-tree3-in-Refused
+shape_of-tree3-in-Refused c = c.load-loaded.auto.tree3
+
+pub returns-in-Refused : goal.returns-in-Refused
+unfolding called_in called
+returns-in-Refused c =
+    let held : Memory = memory_by (numbers_by c.args.stage.now c.args.n.now c.args.m.now c.args.root.now c.args.first.now c.args.last.now c.args.longs.now c.args.born.now) c.args.links.now c.args.ducts.now c.args.used.now c.args.births.now c.args.order.now c.args.tree1.now c.args.tree2.now c.args.tree3.now in
+    let network : Network = network_of c.args.new_n (take (numbers_of c.args.count) c.args.flat.ends) c.args.new_root c.args.new_first c.args.new_last in
+    let right_lengths : wrong_lengths (length c.args.links.now) (length c.args.ducts.now) (length c.args.used.now) (length c.args.births.now) (length c.args.order.now) (length c.args.tree1.now) (length c.args.tree2.now) (length c.args.tree3.now) ≡ false = sym c.wrong_lengths.ensures ∙ c.if-wrong_lengths.false in
+    let after : Session = session_in c.load-loaded.result.state c.load-loaded.new.table c.load-loaded.new.row c.load-loaded.new.used c.load-loaded.new.births c.load-loaded.new.order c.load-loaded.new.tree1 c.load-loaded.new.tree2 c.load-loaded.new.tree3 in
+    let answered : (x : Load) → c.load-loaded.result.answer ≡ x → record { answer = load_answer x; after = after } ≡ loaded_by (session_at held) network c.args.flat.ducts = λ x q. ap (λ (y : Load). record { answer = load_answer y; after = after }) (sym q) ∙ c.load-loaded.ensures.loads_in ∙ ap (λ (k : ℕ). loaded_by (session_in c.state_of-st.result c.args.links.now c.args.ducts.now c.args.used.now c.args.births.now c.args.order.now c.args.tree1.now c.args.tree2.now c.args.tree3.now) (network_of c.args.new_n (take k c.args.flat.ends) c.args.new_root c.args.new_first c.args.new_last) c.args.flat.ducts) c.numbers_of-numbers.ensures ∙ ap (λ (st : State). loaded_by (session_in st c.args.links.now c.args.ducts.now c.args.used.now c.args.births.now c.args.order.now c.args.tree1.now c.args.tree2.now c.args.tree3.now) network c.args.flat.ducts) c.state_of-st.ensures in
+    (lengths_right _ _ 0 right_lengths
+    (refusing_call held _ after 0 (load_leaves _ _ _) (answered _ c.in-Refused.is) refl)
+    ).returns
+
+pub shape_of-links-in-Loaded : goal.shape_of-links-in-Loaded
+shape_of-links-in-Loaded c = c.load-loaded.auto.table
+
+pub shape_of-ducts-in-Loaded : goal.shape_of-ducts-in-Loaded
+shape_of-ducts-in-Loaded c = c.load-loaded.auto.row
+
+pub shape_of-used-in-Loaded : goal.shape_of-used-in-Loaded
+shape_of-used-in-Loaded c = c.load-loaded.auto.used
+
+pub shape_of-births-in-Loaded : goal.shape_of-births-in-Loaded
+shape_of-births-in-Loaded c = c.load-loaded.auto.births
+
+pub shape_of-order-in-Loaded : goal.shape_of-order-in-Loaded
+shape_of-order-in-Loaded c = c.load-loaded.auto.order
+
+pub shape_of-tree1-in-Loaded : goal.shape_of-tree1-in-Loaded
+shape_of-tree1-in-Loaded c = c.load-loaded.auto.tree1
+
+pub shape_of-tree2-in-Loaded : goal.shape_of-tree2-in-Loaded
+shape_of-tree2-in-Loaded c = c.load-loaded.auto.tree2
+
+pub shape_of-tree3-in-Loaded : goal.shape_of-tree3-in-Loaded
+shape_of-tree3-in-Loaded c = c.load-loaded.auto.tree3
+
+pub returns-in-Loaded : goal.returns-in-Loaded
+unfolding called_in called
+returns-in-Loaded c =
+    let held : Memory = memory_by (numbers_by c.args.stage.now c.args.n.now c.args.m.now c.args.root.now c.args.first.now c.args.last.now c.args.longs.now c.args.born.now) c.args.links.now c.args.ducts.now c.args.used.now c.args.births.now c.args.order.now c.args.tree1.now c.args.tree2.now c.args.tree3.now in
+    let network : Network = network_of c.args.new_n (take (numbers_of c.args.count) c.args.flat.ends) c.args.new_root c.args.new_first c.args.new_last in
+    let right_lengths : wrong_lengths (length c.args.links.now) (length c.args.ducts.now) (length c.args.used.now) (length c.args.births.now) (length c.args.order.now) (length c.args.tree1.now) (length c.args.tree2.now) (length c.args.tree3.now) ≡ false = sym c.wrong_lengths.ensures ∙ c.if-wrong_lengths.false in
+    let after : Session = session_in c.load-loaded.result.state c.load-loaded.new.table c.load-loaded.new.row c.load-loaded.new.used c.load-loaded.new.births c.load-loaded.new.order c.load-loaded.new.tree1 c.load-loaded.new.tree2 c.load-loaded.new.tree3 in
+    let answered : (x : Load) → c.load-loaded.result.answer ≡ x → record { answer = load_answer x; after = after } ≡ loaded_by (session_at held) network c.args.flat.ducts = λ x q. ap (λ (y : Load). record { answer = load_answer y; after = after }) (sym q) ∙ c.load-loaded.ensures.loads_in ∙ ap (λ (k : ℕ). loaded_by (session_in c.state_of-st.result c.args.links.now c.args.ducts.now c.args.used.now c.args.births.now c.args.order.now c.args.tree1.now c.args.tree2.now c.args.tree3.now) (network_of c.args.new_n (take k c.args.flat.ends) c.args.new_root c.args.new_first c.args.new_last) c.args.flat.ducts) c.numbers_of-numbers.ensures ∙ ap (λ (st : State). loaded_by (session_in st c.args.links.now c.args.ducts.now c.args.used.now c.args.births.now c.args.order.now c.args.tree1.now c.args.tree2.now c.args.tree3.now) network c.args.flat.ducts) c.state_of-st.ensures in
+    (lengths_right _ _ 0 right_lengths
+    (granting_call held _ after 0 (answered _ c.in-Loaded.is) refl c.put_state.ensures)
+    ).returns
