@@ -12,8 +12,7 @@ use Rattle.dialogue.proofs.take_lines.Goals as goal
 
 pub loop-next-init : goal.loop-next-init
 loop-next-init c =
-    let held : Session = session_in c.args.st c.args.table.now c.args.row.now c.args.used.now c.args.births.now c.args.order.now c.args.tree1.now c.args.tree2.now c.args.tree3.now in
-    (
+    let held : Session = session_in c.args.st c.args.table.now c.args.row.now c.args.used.now c.args.births.now c.args.order.now c.args.tree1.now c.args.tree2.now c.args.tree3.now in (
       reached_begin c.args.r held c.args.links.now c.args.ducts.now c.args.line.now c.args.block.now c.args.from c.args.out.now c.requires.0,
       lent_begin c.args.line.now c.args.numbers.now c.args.links.now c.args.ducts.now c.args.out.now c.requires.1 c.requires.2 c.requires.3 c.requires.4 c.requires.5,
       stored_begin c.args.table.now c.args.row.now c.args.used.now c.args.births.now c.args.order.now c.args.tree1.now c.args.tree2.now c.args.tree3.now c.args.index.now c.requires.6,
@@ -42,8 +41,7 @@ pub loop-next-preserved : goal.loop-next-preserved
 loop-next-preserved c =
     let taken : (LineTaken (holding c.loop-next.reader c.hold_line-h.result) (session_in c.loop-next.state c.loop-next.table c.loop-next.row c.loop-next.used c.loop-next.births c.loop-next.order c.loop-next.tree1 c.loop-next.tree2 c.loop-next.tree3) c.loop-next.links c.loop-next.ducts c.hold_line-h.new.line c.take_line-called.result.reader (session_in c.take_line-called.result.state c.take_line-called.new.table c.take_line-called.new.row c.take_line-called.new.used c.take_line-called.new.births c.take_line-called.new.order c.take_line-called.new.tree1 c.take_line-called.new.tree2 c.take_line-called.new.tree3) c.take_line-called.new.links c.take_line-called.new.ducts c.loop-next.out c.loop-next.written (back c.loop-next.out c.loop-next.written c.take_line-called.new.out) c.take_line-called.result.written) = line_taken (holding c.loop-next.reader c.hold_line-h.result) _ c.loop-next.links c.loop-next.ducts c.hold_line-h.new.line c.take_line-called.result.reader _ _ _ c.loop-next.out c.loop-next.written _ c.take_line-called.result.written c.take_line-called.auto.out c.take_line-called.ensures.takes_line c.take_line-called.ensures.keeps.0 in
     let ends = (not-false _ c.if-not-h.false) in
-    let t = taken in
-    (
+    let t = taken in (
       reached_more c.loop-next.invariant.0 c.over.ensures c.if-over.false c.hold_line-h.result _ c.hold_line-h.ensures.block_after ends c.hold_line-h.ensures.next_in_bounds.0 (c.hold_line-h.ensures.next_in_bounds.1 ends) c.take_line-called.result.reader _ _ _ _ c.take_line-called.result.written t c.least-written.result c.least-written.ensures,
       lent_again c.loop-next.invariant.1 _ _ _ _ _ c.hold_line-h.auto.line c.take_line-called.auto.numbers c.take_line-called.auto.links c.take_line-called.auto.ducts (taken_length c.loop-next.invariant.0.room t) c.take_line-called.ensures.keeps.1,
       stored_again c.loop-next.invariant.2 _ _ _ _ _ _ _ _ _ c.take_line-called.auto.table c.take_line-called.auto.row c.take_line-called.auto.used c.take_line-called.auto.births c.take_line-called.auto.order c.take_line-called.auto.tree1 c.take_line-called.auto.tree2 c.take_line-called.auto.tree3 c.take_line-called.auto.index,

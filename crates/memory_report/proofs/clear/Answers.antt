@@ -12,13 +12,12 @@ pub loop-d-init : goal.loop-d-init
 loop-d-init c = (search rules, refl, fill_none _ 0)
 
 pub loop-d-preserved : goal.loop-d-preserved
-loop-d-preserved c =
-    (
-      search rules,
-      simp length-set c.loop-d.invariant.1,
-      ap (λ (l : List ℕ). set l c.loop-d.d 0) c.loop-d.invariant.2
-          ∙ fill_more c.loop-d.d 0 c.args.sums.now (omega arith),
-    )
+loop-d-preserved c = (
+  search rules,
+  simp length-set c.loop-d.invariant.1,
+  ap (λ (l : List ℕ). set l c.loop-d.d 0) c.loop-d.invariant.2
+      ∙ fill_more c.loop-d.d 0 c.args.sums.now (omega arith),
+)
 
 pub shape_of-sums : goal.shape_of-sums
 shape_of-sums c = c.loop-d.invariant.1

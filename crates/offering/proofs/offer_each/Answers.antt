@@ -66,8 +66,7 @@ loop-next-preserved c =
     let reached : List ℕ → List ℕ → Session = λ (ducts : List ℕ) (tree3 : List ℕ). session_in c.loop-next.state c.args.links.now ducts c.loop-next.used c.loop-next.births c.loop-next.order c.loop-next.tree1 c.loop-next.tree2 tree3 in
     let after : List ℕ → List ℕ → Session = λ (ducts : List ℕ) (tree3 : List ℕ). session_in c.ear-offered.result.state c.args.links.now ducts c.ear-offered.new.used c.ear-offered.new.births c.ear-offered.new.order c.ear-offered.new.tree1 c.ear-offered.new.tree2 tree3 in
     let part : List ℕ = take (c.part_at-part.result.end - c.part_at-part.result.start) (drop c.part_at-part.result.start c.args.list.now) in
-    let answered : (x : Ear) → c.ear-offered.result.answer ≡ x → (ducts tree3 : List ℕ) → record { answer = ear_answer x; after = after ducts tree3 } ≡ offered_by (reached ducts tree3) part = λ x q ducts tree3. ap (λ (y : Ear). record { answer = ear_answer y; after = after ducts tree3 }) (sym q) ∙ c.ear-offered.ensures ducts tree3 in
-    (
+    let answered : (x : Ear) → c.ear-offered.result.answer ≡ x → (ducts tree3 : List ℕ) → record { answer = ear_answer x; after = after ducts tree3 } ≡ offered_by (reached ducts tree3) part = λ x q ducts tree3. ap (λ (y : Ear). record { answer = ear_answer y; after = after ducts tree3 }) (sym q) ∙ c.ear-offered.ensures ducts tree3 in (
       reaches_more c.args.list.now begun reached c.loop-next.accepted c.loop-next.next c.loop-next.invariant.0 c.part_at-part.result c.part_at-part.ensures after
           (answered _ c.in-New.is),
       same_again c.loop-next.invariant.1 c.ear-offered.auto.used c.ear-offered.auto.births c.ear-offered.auto.order c.ear-offered.auto.tree1 c.ear-offered.auto.tree2,
