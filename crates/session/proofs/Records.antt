@@ -3,7 +3,7 @@
 use mathlib.Core.Path.{◌≡◌, refl, sym, ap, ◌∙◌}
 use mathlib.Core.Logic.{⊎_elim}
 use mathlib.Core.List.{List, []}
-use Prim.Native.Nat.{ℕ, ◌*◌, ◌/◌, ◌≤◌, ◌<◌}
+use Prim.Native.Nat.{ℕ, ◌≤◌, ◌<◌}
 use native.Mathlib.Omega.{arith}
 use lib.ListN.{length, take}
 use lib.Seq.{take_all}
@@ -18,7 +18,7 @@ use Rattle.records.proofs.Records.{ends_length, ducts_length, flat_ends, flat_du
 use Rattle.in_place.specs.declared.Stage.{Stage}
 use Rattle.in_place.specs.declared.Stage.TheVariants.{Empty, Open, Closed}
 use Rattle.in_place.specs.declared.Session.{Session}
-use Rattle.in_place.specs.Session.{Stored, session_of, zeros, padded, no_tables, opened_with, by_stage, loaded_by}
+use Rattle.in_place.specs.Session.{session_of, zeros, padded, no_tables, opened_with, by_stage, loaded_by}
 use Rattle.loading.proofs.Loads.{few_links, many_links, load_1}
 
 -- the ducts of a network's links are all that is stored of the ducts

@@ -2,17 +2,29 @@
 // Memory is fixed: one block, one line, the numbers of an ear, the links collected and their ducts, replies, and the session's arrays with their index.
 #![tactic(auto)]
 
-ghost use Rattle.std.specs.Prelude.{◌≡◌, ◌≤◌, length};
+ghost use Rattle.std.specs.Prelude.{◌≡◌, ◌≤◌, IfSome, length};
 ghost use Rattle.in_place.specs.InPlace.{session_in, SizedAs};
 ghost use Rattle.blocks.specs.Running.{EndsWith};
 
 use blocks::{End, Ended};
 use collect::Reader;
 use in_place::Session;
+use std::io::{Read, Stdin};
+
+// Reads what comes next of the input to the start of a block: how many bytes, 0 at its end, or nothing where the read fails.
+fn read_block(mut input: Stdin, block: &mut [u8]) -> Option<usize>
+    ensures { IfSome result (λ n. n ≤ length block.new) }
+{
+    match input.read(block) {
+        Ok(n) => Some(n),
+        Err(_) => None,
+    }
+}
 
 // Reads blocks to the end of the input, or until no more is read, or a read or a write fails.
 // A proved loop has to end, and nothing says that an input does: it counts its turns down from a number that no run uses up.
 fn run(
+    input: Stdin,
     line: &mut [u8],
     numbers: &mut [u16],
     links: &mut [u16],
@@ -37,11 +49,9 @@ fn run(
     while 0 < turns {
         turns -= 1;
         let mut block = io::buffer();
-        let got = libc::read(0, &mut block);
-        if got < 0 {
+        let Some(n) = read_block(input, &mut block) else {
             break;
-        }
-        let n = io::count(got, &block);
+        };
         if n == 0 {
             return blocks::end_input(
                 reader, state, line, numbers, links, ducts, table, row, used, births, order, tree1,
@@ -105,7 +115,7 @@ fn report(end: End) {
     }
 }
 
-fn main() {
+fn main(rt: HostRuntime) {
     let mut line = [0u8; 6145];
     let mut numbers = [0u16; 3072];
     let mut links = [0u16; 2 * (Session::MAX_LINKS as usize)];
@@ -121,6 +131,7 @@ fn main() {
     let mut index = [0u16; network::INDEX_LENGTH];
     let mut out = [0u8; 16384];
     let ended = run(
+        rt.stdin(),
         &mut line,
         &mut numbers,
         &mut links,

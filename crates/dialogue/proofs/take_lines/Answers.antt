@@ -1,5 +1,4 @@
 use borrow.Author.Tests.{not-false, not-true}
-use Prim.Native.Nat.{◌-◌}
 use mathlib.Core.Logic.{⊎_elim}
 use native.Mathlib.Omega.{arith}
 use borrow.Author.Rules.{rules}

@@ -1,8 +1,6 @@
 use Prim.Native.Nat.{ℕ}
 use mathlib.Core.Path.{◌≡◌, sym, ap, ◌∙◌}
-use mathlib.Core.Logic.{⊎_elim}
 use mathlib.Core.List.{List, []}
-use native.Mathlib.Omega.{arith}
 use Rattle.mondschein.specs.Judge.{Answer}
 use Rattle.mondschein.specs.Outcome.{Outcome}
 use Rattle.mondschein.proofs.Outcomes.{known_tree}
