@@ -1,6 +1,6 @@
-/* A switch that judges an ear list, sets its three forwarding tables, parts its network into three maintenance zones, asks for three routes
- * between two switches other than the root and reports what one dig may cost: document 01's worked network, as in examples/worked.plan, with
- * a duct. Session and report are static and nothing is allocated. Exit status: 0, or 1 after a refusal that was not expected. */
+/* A switch that judges an ear list, sets its three forwarding tables, parts its network into three maintenance zones and reports what one
+ * dig may cost: document 01's worked network, as in examples/worked.plan, with a duct. Session and report are static and nothing is allocated. Exit status: 0, or 1 after a refusal that
+ * was not expected. */
 #include <stdio.h>
 #include <stdlib.h>
 
@@ -16,7 +16,6 @@ static const struct threeways_link links[] = { { 0, 1, DUCT }, { 0, 2, 0 }, { 0,
 static const uint16_t wrong_ear[] = { 0, 2, 3, 1 };
 static const uint16_t list[] = { 3, 0, 2, 1, 3, 2, 3, 1, 0 };
 static const uint16_t sizes[ZONES] = { 1, 2, 1 };       /* of the zones: they add up to 4 */
-static const uint16_t ends[] = { 1, 3 };                /* two switches that talk without the root */
 
 #define COUNT(array) (sizeof(array) / sizeof((array)[0]))
 
@@ -107,37 +106,6 @@ static void print_zones(void)
     }
 }
 
-/* Prints a thing whose loss parts the two ends: a switch, or their direct link by its index. */
-static void print_thing(uint16_t kind, uint16_t thing)
-{
-    printf(" %s %u", kind == THREEWAYS_SWITCH ? "switch" : "link", (unsigned)thing);
-}
-
-/* Asks for three routes between the ends, and prints them, or what parts the two. Walks stand one after another in the slice; n + 4 numbers
- * are always enough. */
-static void print_between(void)
-{
-    static uint16_t walks[THREEWAYS_MAX_SWITCHES + 4];
-    struct threeways_between b = threeways_routes(&session, ends[0], ends[1], walks, COUNT(walks));
-    struct threeways_refusal refusal = { b.number, b.place };
-    const uint16_t counts[] = { b.walk1, b.walk2, b.walk3 }, *walk = walks;
-    require("routes", refusal);
-    if (b.walk1 == 0) {
-        printf("switches %u and %u: parted by", (unsigned)ends[0], (unsigned)ends[1]);
-        if (b.things >= 1)
-            print_thing(b.kind1, b.thing1);
-        if (b.things == 2)
-            print_thing(b.kind2, b.thing2);
-        puts(b.things == 0 ? " nothing" : "");
-        return;
-    }
-    for (size_t i = 0; i < COUNT(counts); walk += counts[i++]) {
-        printf("switches %u and %u, route %zu:", (unsigned)ends[0], (unsigned)ends[1], i + 1);
-        print_switches(walk, counts[i]);
-        putchar('\n');
-    }
-}
-
 /* Begins a report, adds the session, and prints how many switches lose two walks, and all three, when the duct is cut. */
 static void print_report(void)
 {
@@ -154,7 +122,6 @@ int main(void)
     for (uint16_t s = 0; s < session.n; s++)
         print_routes(s);
     print_zones();
-    print_between();
     print_report();
     return EXIT_SUCCESS;
 }

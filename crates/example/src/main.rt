@@ -1,7 +1,6 @@
-// The worked example of document 01, its cards i and l and the cards below them, zones and routes of card k, card k brought over, and lists of
-// ears, through the calls. Each answer is written as the lines of document 01 write it, that of parent as (parent switch tree entry), that of zones
-// as (zones sizes (zone of each switch)), that of routes as (routes from to (counts) (walks)) or (parted from to things), that of a list as (accepted
-// ears), that of bringing over as (brought over).
+// The worked example of document 01, its cards i and l and the cards below them, zones of card k, card k brought over, and lists of ears, through
+// the calls. Each answer is written as the lines of document 01 write it, that of parent as (parent switch tree entry), that of zones as (zones
+// sizes (zone of each switch)), that of a list as (accepted ears), that of bringing over as (brought over).
 #![tactic(auto)]
 
 use bringing::BroughtOver;
@@ -9,7 +8,6 @@ use closing::Close;
 use judge::Ear;
 use network::Load;
 use offering::EarList;
-use routing::{Between, Loss, Things};
 use session::Session;
 use walks::{Parent, Walk};
 use zoning::Zoned;
@@ -163,57 +161,6 @@ fn zones(s: Session, n1: u16, n2: u16, n3: u16) {
     }
 }
 
-// Writes a thing whose loss parts two switches.
-fn write_loss(loss: Loss) {
-    match loss {
-        Loss::Switch(switch) => {
-            io::write_all(1, b" (switch ");
-            io::print_decimal(1, switch as u64);
-        }
-        Loss::Link(index) => {
-            io::write_all(1, b" (link ");
-            io::print_decimal(1, index as u64);
-        }
-    }
-    io::write_all(1, b")");
-}
-
-// Writes what parts two switches.
-fn write_things(things: Things) {
-    match things {
-        Things::Nothing => {}
-        Things::One(one) => write_loss(one),
-        Things::Two(one, two) => {
-            write_loss(one);
-            write_loss(two);
-        }
-    }
-}
-
-// Writes what routes of card k answers, and the walks out of the slice.
-fn between(s: Session, from: u16, to: u16) {
-    let mut out = [0u16; 10];
-    let answer = routes::between(s, from, to, &mut out);
-    match answer {
-        Between::Walks(a, b, c) => {
-            io::write_all(1, b"(routes ");
-            write_list(&[from, to], 2);
-            io::write_all(1, b" (");
-            write_list(&[a, b, c], 3);
-            io::write_all(1, b") (");
-            write_list(&out, (a as usize) + (b as usize) + (c as usize));
-            io::write_all(1, b"))\n");
-        }
-        Between::Parted(things) => {
-            io::write_all(1, b"(parted ");
-            write_list(&[from, to], 2);
-            write_things(things);
-            io::write_all(1, b")\n");
-        }
-        Between::Refused(number, place) => write_refusal(number, place),
-    }
-}
-
 // The worked example.
 fn worked_example() {
     let links: [u16; 12] = [0, 1, 0, 2, 0, 3, 1, 2, 1, 3, 2, 3];
@@ -252,8 +199,7 @@ fn first_network() {
     parent(s, 2, 0);
 }
 
-// On the network of card k: card l, the walks of 3; zones: between two ears, through the first ear, and sizes that are refused; and routes: three
-// walks, two switches that are parted, two that are joined, and one switch alone.
+// On the network of card k: card l, the walks of 3, and zones: between two ears, through the first ear, and sizes that are refused.
 fn second_network() {
     let links: [u16; 20] = [0, 1, 0, 2, 1, 2, 1, 3, 2, 3, 3, 4, 3, 5, 4, 5, 0, 4, 0, 5];
     let mut s = load(6, &links, 0, 1, 5);
@@ -269,10 +215,6 @@ fn second_network() {
     zones(s, 1, 1, 4);
     zones(s, 3, 3, 0);
     zones(s, 65535, 1, 6);
-    between(s, 0, 3);
-    between(s, 1, 4);
-    between(s, 0, 1);
-    between(s, 5, 5);
 }
 
 // On the network of card k as it was closed before document 02, Note 6, when switch 3 had 4 in tree 3: its third walk before it is brought over,

@@ -3,7 +3,6 @@
 use Rattle.std.specs.Prelude.{◌≡◌, List, ℕ, length}
 use Rattle.mondschein.specs.Network.{Network}
 use Rattle.mondschein.specs.Order.{shortest}
-use Rattle.mondschein.specs.Outcome.{Outcome}
 use Rattle.machine.specs.Machine.{load, ear, ears, close, bring_over, clear}
 use Rattle.in_place.specs.Queries.{parent_by, walked_by}
 use Rattle.zoning.specs.Zoning.{zoned_by}
