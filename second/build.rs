@@ -1,9 +1,9 @@
 //! Links the static archive of the first program where it is built, and says so by the cfg `archive`.
-//! `THREEWAYS_ARCHIVE` names another file than the one that `rt staticlib threeways_c` makes.
+//! `THREEWAYS_ARCHIVE` names another file than the one that `rt lib` makes in `crates/threeways_c`.
 
 use std::path::{Path, PathBuf};
 
-const BUILT: &str = "../target/staticlib/libthreeways_c.a";
+const BUILT: &str = "../crates/threeways_c/out/libthreeways_c.a";
 
 fn main() {
     println!("cargo::rustc-check-cfg=cfg(archive)");
