@@ -118,9 +118,9 @@ impl Plant {
             12 => Some(Plant::WrongNone),
             13 => Some(Plant::WrongTwo),
             14 => Some(Plant::WrongTurn),
-            15 => Some(Plant::WrongSlice),
-            16 => Some(Plant::WrongTwice),
-            17 => Some(Plant::WrongParting),
+            16 => Some(Plant::WrongSlice),
+            17 => Some(Plant::WrongTwice),
+            18 => Some(Plant::WrongParting),
             _ => None,
         }
     }

@@ -122,7 +122,7 @@ mod with_the_archive {
             (&["1", "20000", "--plant", "1"], 1),
             (&["1"], 2),
             (&["1", "many"], 2),
-            (&["1", "1000", "--plant", "18"], 2),
+            (&["1", "1000", "--plant", "15"], 2),
         ] {
             let ended = second_calls(arguments);
             assert_eq!(ended.status.code(), Some(status), "{arguments:?}");

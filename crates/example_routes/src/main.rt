@@ -2,6 +2,7 @@
 // things), or as the line of a refusal.
 #![tactic(auto)]
 
+use closing::Close;
 use network::Load;
 use routing::{Between, Loss, Things};
 use session::Session;
@@ -97,12 +98,29 @@ fn between(s: Session, from: u16, to: u16) {
     }
 }
 
-// On the network of card k: three walks, two switches that are parted, two that are joined, and one switch alone.
+// Closes, writes the answer, and gives the session after it.
+fn close(s: Session) -> Session {
+    let closing = session::close(s);
+    let answer = closing.answer;
+    match answer {
+        Close::Closed => {
+            io::write_all(1, b"(closed)\n");
+        }
+        Close::Refused(number, place) => write_refusal(number, place),
+    }
+    closing.session
+}
+
+// On the network of card k: three walks, and two switches that are parted, before any ear; and once card k is closed, two switches that are joined, and
+// one switch alone.
 fn main() {
     let links: [u16; 20] = [0, 1, 0, 2, 1, 2, 1, 3, 2, 3, 3, 4, 3, 5, 4, 5, 0, 4, 0, 5];
+    let ears: [u16; 19] = [3, 0, 2, 1, 3, 2, 3, 1, 3, 3, 4, 0, 3, 3, 5, 4, 2, 0, 5];
     let s = load(6, &links, 0, 1, 5);
     between(s, 0, 3);
     between(s, 1, 4);
+    let listed = session::ears(s, &ears);
+    let s = close(listed.session);
     between(s, 0, 1);
     between(s, 5, 5);
 }

@@ -1,5 +1,5 @@
 //! `second-calls SEED COUNT` makes COUNT random calls of the archive and compares them with the second program.
-//! `--plant N` (1 to 9 and 11 to 14) puts a fault into the second program on purpose.
+//! `--plant N` (1 to 9, 11 to 14 and 16 to 18) puts a fault into the second program on purpose.
 
 use std::process::ExitCode;
 
