@@ -1,5 +1,5 @@
 //! Links the static archive of the first program where it is built, and says so by the cfg `archive`.
-//! `THREEWAYS_ARCHIVE` names another file than the one that `rt lib` makes in `crates/threeways_c`.
+//! `THREEWAYS_ARCHIVE` names another file than the one that `rt lib --cpu=x86-64` makes in `crates/threeways_c`.
 
 use std::path::{Path, PathBuf};
 

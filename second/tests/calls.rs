@@ -6,9 +6,9 @@ mod without_the_archive {
     use std::process::Command;
 
     #[test]
-    #[ignore = "the archive is not built: rt lib in crates/threeways_c"]
+    #[ignore = "the archive is not built: rt lib --cpu=x86-64 in crates/threeways_c"]
     fn the_archive_is_compared() {
-        panic!("the archive is not built: rt lib in crates/threeways_c");
+        panic!("the archive is not built: rt lib --cpu=x86-64 in crates/threeways_c");
     }
 
     #[test]
@@ -16,7 +16,7 @@ mod without_the_archive {
         let ended = Command::new(env!("CARGO_BIN_EXE_second-calls")).args(["1", "10"]).output().expect("it runs");
         assert_eq!(ended.status.code(), Some(2));
         assert!(ended.stdout.is_empty());
-        let said = "second-calls: the archive is not built: rt lib in crates/threeways_c\n";
+        let said = "second-calls: the archive is not built: rt lib --cpu=x86-64 in crates/threeways_c\n";
         assert_eq!(String::from_utf8_lossy(&ended.stderr), said);
     }
 }

@@ -5,7 +5,7 @@ use std::process::ExitCode;
 
 #[cfg(not(archive))]
 fn main() -> ExitCode {
-    eprintln!("second-calls: the archive is not built: rt lib in crates/threeways_c");
+    eprintln!("second-calls: the archive is not built: rt lib --cpu=x86-64 in crates/threeways_c");
     ExitCode::from(2)
 }
 
