@@ -12,7 +12,8 @@ use borrow.Author.Tests.{lt-ltb, le-ltb, eq-eqb, eqb-true}
 use Rattle.mondschein.specs.Network.{at}
 use Rattle.mondschein.specs.Order.{position}
 use Rattle.mondschein.proofs.Logic.{less?, clash}
-use Rattle.mondschein.proofs.Search.{IsLow, low_is}
+use Rattle.mondschein.proofs.Search.{IsLow, low_is, low_none, low_stop}
+use Rattle.std.proofs.Common.{Option, None, Some, MatchOption, EachIndex, unwrap_or, ne_eqb}
 
 -- the entry r of a table of marks
 pub marked_hit : {r mark : ℕ} → r ≡ mark → 0 < r → ltb 0 mark ≡ true
@@ -53,3 +54,9 @@ module _ (l : List ℕ) (x : ℕ) where
       let z : position l x ≡ k = omega arith in
       absurd (d (subst (λ (j : ℕ). at l j ≡ x) z (position_found (omega arith)))))
       (less? k (position l x))
+
+  -- the position, of what a search for x answers
+  pub position_is : (r : Option ℕ) → MatchOption r (EachIndex l (λ k. at l k ≢ x)) (λ i. (i < length l) × (at l i ≡ x) × ((k : ℕ) → k < i → at l k ≢ x)) → unwrap_or r (length l) ≡ position l x
+  unfolding position
+  position_is None h = sym (low_none (λ j. eqb (at l j) x) (length l) (λ j m. ne_eqb _ _ (h j m)))
+  position_is (Some i) h = sym (low_stop (λ j. eqb (at l j) x) (length l) i (λ j m. ne_eqb _ _ (h.2 j m)) h.0 (eq-eqb _ _ h.1))
