@@ -1,17 +1,10 @@
 -- Laws of link records: how many numbers they are, what one more record adds, and what a flat table of them holds.
 -- `fitting` is the fitted list by recursion: a store at its end is one number more.
-use mathlib.Core.Path.{◌≡◌, refl, sym, ap, ◌∙◌}
-use mathlib.Core.Logic.{⊎_elim}
-use mathlib.Core.List.{List, [], ◌∷◌, ◌++◌}
-use Prim.Native.Nat.{ℕ, suc, ◌+◌, ◌*◌, ◌≤◌, ◌<◌}
-use native.Mathlib.Omega.{arith}
-use native.Mathlib.Numerals.{add-one}
-use lib.ListN.{length, take, set, get_or, replicate, length-append, length-replicate}
-use lib.Seq.{length-take-le, take_all, take-suc, set_out}
-use borrow.Author.Tests.{lt-ltb, le-ltb}
+use Rattle.std.proofs.Common.{◌≡◌, refl, sym, ap, ◌∙◌, ⊎_elim, List, [], ◌∷◌, ◌++◌, ℕ, suc, ◌+◌, ◌*◌, ◌≤◌, ◌<◌, arith, add-one, length, take, set, get_or, replicate, length-append, length-take-le, take_all, take-suc, lt-ltb, le-ltb}
+use Rattle.std.proofs.Math.ListN.{length-replicate}
 use Rattle.mondschein.proofs.Logic.{less?}
 use Rattle.records.specs.declared.Link.{Link}
-use Rattle.records.specs.Records.{ends_of, ducts_of, fitted, flat_with, flat_of, numbers_of}
+use Rattle.records.specs.Records.{ends_of, ducts_of, fitted, flat_of, numbers_of}
 
 pub ends_length : (ls : List Link) → length (ends_of ls) ≡ 2 * length ls
 unfolding ends_of
@@ -22,10 +15,6 @@ pub ducts_length : (ls : List Link) → length (ducts_of ls) ≡ length ls
 unfolding ducts_of
 ducts_length [] = refl
 ducts_length (l ∷ ls) = ap suc (ducts_length ls)
-
--- a link past the end of a table is not stored
-pub ends_out : (l : List ℕ) (i a b : ℕ) → length l ≤ i → set (set l (2 * i) a) (2 * i + 1) b ≡ l
-ends_out l i a b h = ap (λ (k : List ℕ). set k (2 * i + 1) b) (set_out l (2 * i) a (omega arith)) ∙ set_out l (2 * i + 1) b (omega arith)
 
 -- the fitted list, by recursion
 unfoldable pub fitting : List ℕ → List ℕ → List ℕ
@@ -123,19 +112,6 @@ fitted_first l row h = ap (λ (k : List ℕ). take (length l) k) (sym (fitting_f
     go (x ∷ l) [] h = absurd (omega (arith, h))
     go (x ∷ l) (y ∷ row) h = ap (λ (k : List ℕ). x ∷ k) (go l row (omega (arith, h)))
 
--- before the first record the rows are as they were; after the last they are the flat table of the records
-pub ends_none : (ls : List Link) (row : List ℕ) → fitting (ends_of (take 0 ls)) row ≡ row
-unfolding ends_of fitting
-ends_none ls row = refl
-
-pub ducts_none : (ls : List Link) (row : List ℕ) → fitting (ducts_of (take 0 ls)) row ≡ row
-unfolding ducts_of fitting
-ducts_none ls row = refl
-
-pub flat_done : (ls : List Link) (i : ℕ) → length ls ≤ i → flat_with (fitting (ends_of (take i ls)) (replicate 8192 0)) (fitting (ducts_of (take i ls)) (replicate 4096 0)) ≡ flat_of ls
-unfolding flat_of
-flat_done ls i h = λ j. flat_with (ends_done ls (replicate 8192 0) i h j) (ducts_done ls (replicate 4096 0) i h j)
-
 -- what a caller reads: the rows' lengths, and, of no more records than there is room for, their numbers at the start of the rows
 pub flat_ends_length : (ls : List Link) → length (flat_of ls).ends ≡ 8192
 unfolding flat_of
@@ -168,3 +144,6 @@ numbers_none m h = rw (lt-ltb 4096 m h)
 
 pub numbers_fit : (m : ℕ) → numbers_of m ≤ 8192
 numbers_fit m = ⊎_elim (λ h. omega (arith, numbers_none m h)) (λ h. omega (arith, numbers_whole m h)) (less? 4096 m)
+
+-- what `flatten` cites
+pub ruleset stored = (ends_stored, ducts_stored, ends_done, ducts_done)

@@ -23,22 +23,13 @@ pub struct Flat {
     pub ducts: [u8; MAX_LINKS as usize],
 }
 
-// Stores the number at i, and nothing past the end.
-fn store_at(row: &mut [u16], i: usize, x: u16)
-    ensures { row.new ≡ set row.old i x }
-{
-    if i < row.len() {
-        row[i] = x;
-    }
-}
-
-// Stores the two ends of link i, and nothing past the end.
+// Stores the two ends of link i, and nothing past the end. The test keeps 2 i within a usize.
 fn put_ends(ends: &mut [u16], i: usize, a: u16, b: u16)
     ensures { ends.new ≡ set (set ends.old (2 * i) a) (2 * i + 1) b }
 {
     if i < ends.len() {
-        store_at(ends, 2 * i, a);
-        store_at(ends, 2 * i + 1, b);
+        rows::store_at(ends, 2 * i, a);
+        rows::store_at(ends, 2 * i + 1, b);
     }
 }
 
@@ -47,38 +38,26 @@ fn put(ends: &mut [u16], ducts: &mut [u8], i: usize, link: Link)
     ensures { (ends.new ≡ set (set ends.old (2 * i) link.a) (2 * i + 1) link.b) × (ducts.new ≡ set ducts.old i link.duct) }
 {
     put_ends(ends, i, link.a, link.b);
-    if i < ducts.len() {
-        ducts[i] = link.duct;
-    }
-}
-
-// The flat table with these rows.
-fn with_rows(ends: [u16; 2 * (MAX_LINKS as usize)], ducts: [u8; MAX_LINKS as usize]) -> Flat
-    ensures { result ≡ flat_with ends ducts }
-{
-    Flat { ends, ducts }
+    rows::store_at(ducts, i, link.duct);
 }
 
 // The flat table of the records, in their order. What does not fit is left out.
+#[tactic(auto, using(crate::proofs::Records::stored), unfolding(crate::specs::Records::flat_of))]
 pub fn flatten(links: &[Link]) -> Flat
     ensures { result ≡ flat_of links.now }
 {
     let mut ends = [0u16; 2 * (MAX_LINKS as usize)];
     let mut ducts = [0u8; MAX_LINKS as usize];
-    let mut i = 0;
-    while i < links.len() {
-        put(&mut ends, &mut ducts, i, links[i]);
-        i += 1;
+    for (i, link) in links.iter().enumerate() {
+        put(&mut ends, &mut ducts, i, *link);
     }
-    with_rows(ends, ducts)
+    Flat { ends, ducts }
 }
 
 // How many numbers the first m links of a flat table are; none where there is no room for so many.
+#[tactic(auto, unfolding(crate::specs::Records::numbers_of))]
 pub fn numbers_of(m: usize) -> usize
     ensures { result ≡ numbers_of m }
 {
-    if (MAX_LINKS as usize) < m {
-        return 0;
-    }
-    2 * m
+    if m <= MAX_LINKS as usize { 2 * m } else { 0 }
 }

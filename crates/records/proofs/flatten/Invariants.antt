@@ -1,4 +1,4 @@
-use Rattle.std.proofs.Common.{◌≡◌, ◌-◌, ◌≤◌, length, take, replicate}
+use Rattle.std.proofs.Common.{◌≡◌, take, replicate}
 use Rattle.records.specs.Records.{ends_of, ducts_of}
 use Rattle.records.proofs.Records.{fitting}
 use Rattle.records.proofs.flatten.Given as goal
@@ -6,9 +6,4 @@ use Rattle.records.proofs.flatten.Given as goal
 -- the rows once the first records are stored
 abbrev pub invariant-loop-i : goal.invariant-loop-i
 invariant-loop-i l =
-    (l.i ≤ length l.links)
-    × (l.ends ≡ fitting (ends_of (take l.i l.links)) (replicate 8192 0))
-    × (l.ducts ≡ fitting (ducts_of (take l.i l.links)) (replicate 4096 0))
-
-abbrev pub decreases-loop-i : goal.decreases-loop-i
-decreases-loop-i l = length l.links - l.i
+    (l.ends ≡ fitting (ends_of (take l.i l.links)) (replicate 8192 0)) × (l.ducts ≡ fitting (ducts_of (take l.i l.links)) (replicate 4096 0))
