@@ -1,43 +1,18 @@
--- Used links under an empty ear: one link taken by the comparisons of the code, the links taken so far, and the row that it leaves,
--- which is as long as before and has the leftover links marked too.
-use mathlib.Core.Path.{◌≡◌, refl, sym, ap, ap₂, ◌∙◌}
-use mathlib.Core.Bool.{Bool, false, not, ◌&&◌, ◌||◌, cond}
-use mathlib.Core.List.{List}
-use Prim.Native.Nat.{ℕ, ◌+◌, ◌*◌, ◌≤◌, ◌<◌}
-use native.Mathlib.Omega.{arith}
-use lib.Dec.{ltb}
-use lib.ListN.{length, set}
-use lib.Seq.{set-get_or}
+-- Used links under an empty ear: one link more among those taken so far, and the row that it leaves, which is as long as before and
+-- has the leftover links marked too.
+use Rattle.std.proofs.Common.{◌≡◌, refl, ap, ◌∙◌, not, ◌&&◌, ◌||◌, cond, List, ℕ, ◌+◌, ◌*◌, ◌<◌, arith, ltb, length, set}
 use Rattle.mondschein.specs.Network.{Network, at, size, former, latter}
 use Rattle.mondschein.specs.EmptyEar.{left_over}
-use Rattle.mondschein.proofs.Logic.{false_and, or_not}
+use Rattle.mondschein.proofs.Logic.{or_not}
 use Rattle.network.specs.Load.{table_of}
 use Rattle.rows.specs.Rows.{marked, assigned}
-use Rattle.rows.proofs.Rows.{marked_hit, marked_miss, mark_or}
+use Rattle.rows.proofs.Rows.{mark_or}
 use Rattle.rows.proofs.Assigned.{assigned_length, assigned_other, assigned_each, assigned_more}
 use Rattle.left_over.specs.LeftOver.{used_after_empty}
 
 -- link l from a to b used, where it was unused and both are born
 abbrev taken : List ℕ → List ℕ → ℕ → ℕ → ℕ → List ℕ
 taken used births l a b = set used l (cond (not (marked used l) && (marked births a && marked births b)) 1 (at used l))
-
--- by the comparisons of the code; r is the mark of l, p and q are the births of a and b
-module _ (used births : List ℕ) (l a b : ℕ) where
-  untaken : (not (marked used l) && (marked births a && marked births b)) ≡ false → used ≡ taken used births l a b
-  untaken f = sym (ap (λ (t : Bool). set used l (cond t 1 (at used l))) f ∙ set-get_or used l 0)
-
-  pub untaken_used : {r : ℕ} → r ≡ at used l → 0 < r → used ≡ taken used births l a b
-  untaken_used e h = untaken (ap (λ (t : Bool). not t && (marked births a && marked births b)) (marked_hit e h))
-
-  pub untaken_former : {p : ℕ} → p ≡ at births a → p ≤ 0 → used ≡ taken used births l a b
-  untaken_former e h = untaken (false_and (not (marked used l)) _ (λ _. ap (λ (t : Bool). t && marked births b) (marked_miss e h)))
-
-  pub untaken_latter : {q : ℕ} → q ≡ at births b → q ≤ 0 → used ≡ taken used births l a b
-  untaken_latter e h = untaken (false_and (not (marked used l)) _ (λ _. false_and (marked births a) _ (λ _. marked_miss e h)))
-
-  pub taken_is : {r p q : ℕ} → r ≡ at used l → r ≤ 0 → p ≡ at births a → 0 < p → q ≡ at births b → 0 < q → set used l 1 ≡ taken used births l a b
-  taken_is e h f i g j =
-      sym (ap (λ (t : Bool). set used l (cond t 1 (at used l))) (ap₂ ◌&&◌ (ap not (marked_miss e h)) (ap₂ ◌&&◌ (marked_hit f i) (marked_hit g j))))
 
 -- the mark of link l after an empty ear
 abbrev pub mark_after : Network → List ℕ → List ℕ → ℕ → ℕ
