@@ -1,14 +1,9 @@
 -- A walk as the switches visited up to its last one, and these written into a slice from the front.
 -- What stands behind them is left.
-use mathlib.Core.Path.{◌≡◌, refl, ap}
-use mathlib.Core.Bool.{Bool, true, false, cond}
-use mathlib.Core.List.{List, [], ◌∷◌, ◌++◌}
-use Prim.Native.Nat.{ℕ, zero, suc, ◌+◌, ◌-◌, ◌<◌}
-use native.Mathlib.Omega.{arith}
-use native.Mathlib.Numerals.{add-one}
-use lib.Dec.{eqb}
-use lib.ListN.{length, set, take, drop}
-use lib.Seq.{set_split, take-suc-set, drop-set-lt, append_snoc}
+use Rattle.std.proofs.Common.{◌≡◌, refl, ap, Bool, true, false, cond, List, [], ◌∷◌, ◌++◌, ℕ, zero, suc, ◌+◌, ◌-◌, ◌<◌, arith, eqb, length, set, take, drop, append_assoc}
+use Rattle.std.proofs.Math.Seq.{drop-cons}
+use Rattle.std.proofs.lemmas.List.{set-append_right, take_all}
+use Rattle.std.proofs.lemmas.Grind.{common_steps}
 use Rattle.mondschein.specs.Order.{walk_by}
 use Rattle.walks.specs.Walks.{visited}
 use Rattle.mondschein.proofs.Routes.{walk_bound}
@@ -28,20 +23,17 @@ visited_walk root p (suc k) v left q = go (eqb v root) left q (visited_walk root
     go false zero q next = absurd (omega (arith, walk_bound root p k (p v)))
     go false (suc left) q next = ap (λ (l : List ℕ). v ∷ l) (next left (omega arith))
 
--- ---- a loop that writes them from the front: i of them stand in the slice, x is the next, and what stands behind the last is left
-module _ (p : ℕ → ℕ) (left : ℕ) (out : List ℕ) where
-  pub visited_begin : (v : ℕ) → take 0 out ++ (visited p (left - 0) v ++ drop (suc left) out) ≡ visited p left v ++ drop (suc left) out
-  visited_begin v = let e : left - 0 ≡ left = omega arith in rw e
-
-  pub visited_next : (x i : ℕ) → i < left → left < length out
-      → take (i + 1) (set out i x) ++ (visited p (left - (i + 1)) (p x) ++ drop (suc left) (set out i x)) ≡ take i out ++ (visited p (left - i) x ++ drop (suc left) out)
+-- ---- a loop that writes them from the front into xs: i of them stand there, and x is the next
+module _ (p : ℕ → ℕ) (left : ℕ) (xs : List ℕ) where
+  pub visited_next : (x i : ℕ) → i < left → i < length xs
+      → take (i + 1) (set xs i x) ++ visited p (left - (i + 1)) (p x) ≡ take i xs ++ visited p (left - i) x
   unfolding visited
-  visited_next x i h g =
-      let e : left - i ≡ suc (left - (i + 1)) = omega arith in
-      let o : i < length out = omega arith in
-      let s : i < suc left = omega arith in
-      rw (e, drop-set-lt (suc left) out i x, add-one i, take-suc-set out i x, append_snoc)
+  visited_next x i h g = let e : left - i ≡ suc (left - (i + 1)) = omega arith in rw e (grind (arith, common_steps))
 
-  pub visited_last : (x i : ℕ) → i ≡ left → left < length out → set out left x ≡ take i out ++ (visited p (left - i) x ++ drop (suc left) out)
+  -- the last of them goes behind xs, and what stands behind it in the slice is left
+  pub visited_last : (out : List ℕ) (x : ℕ) → length xs ≡ left → left < length out
+      → set (xs ++ drop left out) left x ≡ (take left xs ++ visited p (left - left) x) ++ drop (suc left) out
   unfolding visited
-  visited_last x i e h = let z : left - i ≡ 0 = omega arith in rw (z, e, set_split out left x h)
+  visited_last out x e h =
+      let z : left - left ≡ 0 = omega arith in
+      rw (set-append_right xs (drop left out) left left x e (omega arith), drop-cons out left 0 h, z, take_all left xs (omega arith), append_assoc xs (x ∷ []) (drop (suc left) out))

@@ -1,12 +1,7 @@
-use Prim.Native.Nat.{◌≤◌, ◌+◌, ◌-◌}
-use mathlib.Core.Path.{◌≡◌}
-use lib.ListN.{length}
+use Rattle.std.proofs.Common.{◌≡◌, ◌+◌, ◌-◌, length}
 use Rattle.mondschein.specs.Network.{at}
 use Rattle.mondschein.specs.Order.{walk_by}
 use Rattle.walks.proofs.links_left.Given as goal
 
 abbrev pub invariant-loop-k : goal.invariant-loop-k
-invariant-loop-k l = (l.k ≤ l.limit) × (length (walk_by l.root (at l.row) l.limit l.v) ≡ l.k + length (walk_by l.root (at l.row) (l.limit - l.k) l.x))
-
-abbrev pub decreases-loop-k : goal.decreases-loop-k
-decreases-loop-k l = l.limit - l.k
+invariant-loop-k l = length (walk_by l.root (at l.row) l.limit l.v) ≡ l.k + length (walk_by l.root (at l.row) (l.limit - l.k) l.x)
