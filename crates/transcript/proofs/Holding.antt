@@ -1,17 +1,6 @@
 -- Laws of the bytes of a line that are held: one more byte, up to 6,145, and the bytes of a block up to the end of the line.
 -- A line that does not end in a block takes all that is left of it.
-use mathlib.Core.Path.{◌≡◌, refl, sym, ap, ◌∙◌}
-use mathlib.Core.Logic.{◌≢◌}
-use mathlib.Core.Bool.{Bool, true, false, cond}
-use mathlib.Core.List.{List, [], ◌∷◌, ◌++◌}
-use Prim.Native.Nat.{ℕ, suc, ◌+◌, ◌≤◌, ◌<◌}
-use native.Mathlib.Numerals.{add-one}
-use native.Mathlib.Omega.{arith}
-use lib.Dec.{eqb}
-use lib.ListN.{length, set, take, drop, drop_of_length-le, length-take, length-append}
-use lib.Seq.{drop-cons, take_all, take_at, take-suc-set}
-use borrow.Author.Tests.{eq-eqb, ne_eqb, lt-ltb, le-ltb}
-use Rattle.mondschein.specs.Network.{at}
+use Rattle.std.proofs.Common.{◌≡◌, ◌≢◌, ℕ, ◌+◌, ◌-◌, ◌<◌, ◌≤◌, Bool, true, false, cond, eqb, List, [], ◌∷◌, ◌++◌, length, get_or, take, drop, set, refl, sym, ap, ◌∙◌, arith, add-one, length-take, length-drop, length-append, get_or-take, get_or-drop, take_all, take_at, take-suc-set, drop-cons, drop_of_length-le, eq-eqb, ne_eqb, lt-ltb, le-ltb}
 use Rattle.mondschein.proofs.Logic.{clash}
 use Rattle.transcript.specs.Transcript.{lengthened, too_long, LineHeld, held_line}
 
@@ -27,35 +16,38 @@ module _ (line : List ℕ) (held b : ℕ) (whole : length line ≡ 6145) where
       ∙ take-suc-set line held b (omega arith)
       ∙ sym (take_all 6145 (take held line ++ (b ∷ [])) (omega (arith, length-append (take held line) (b ∷ []), length-take held line)))
 
--- a block that is held byte by byte
-module _ (l block : List ℕ) (i : ℕ) where
-  pub held_end : length block ≤ i → record { line = l; rest = drop i block; ends = false } ≡ held_line l (drop i block)
+-- a byte of what a block has from a place on
+pub rest_byte : (block : List ℕ) (from i : ℕ) → i < length (take (length block - from) (drop from block))
+    → drop (from + i) block ≡ get_or (take (length block - from) (drop from block)) i 0 ∷ drop (from + i + 1) block
+rest_byte block from i h =
+    let n : i < length block - from = omega (arith, length-take {A = ℕ}) in
+    let l : from + i < length block = omega arith in
+    rw (add-one, drop-cons block (from + i) 0 l, get_or-take (length block - from) (drop from block) i 0 n, get_or-drop from block i 0)
+
+pub rest_none : (block : List ℕ) (from i : ℕ) → length (take (length block - from) (drop from block)) ≤ i → drop (from + i) block ≡ drop (length block) block
+rest_none block from i h =
+    let l : length block ≤ from + i = omega (arith, length-take {A = ℕ}, length-drop {A = ℕ}) in
+    rw (drop_of_length-le block l, drop_of_length-le block {i = length block} (omega arith))
+
+-- the line l goes on where the block ends
+pub held_end : (l block : List ℕ) → held_line l (drop (length block) block) ≡ record { line = l; rest = drop (length block) block; ends = false }
+unfolding held_line
+held_end l block = let z : drop (length block) block ≡ [] = drop_of_length-le block (omega arith) in rw z
+
+-- the line l goes on with a byte and the rest of a block
+module _ (l rest : List ℕ) (b : ℕ) where
+  pub held_feed : b ≡ 10 → held_line l (b ∷ rest) ≡ record { line = l; rest = rest; ends = true }
   unfolding held_line
-  held_end h = rw (drop_of_length-le block {i = i} h)
+  held_feed q = rw (eq-eqb b 10 q)
 
-  module _ (h : i < length block) where
-    pub held_feed : at block i ≡ 10 → record { line = l; rest = drop (i + 1) block; ends = true } ≡ held_line l (drop i block)
+  module _ (d : b ≢ 10) (more : List ℕ) (e : more ≡ lengthened l b) where
+    pub held_long : 6144 < length more → held_line l (b ∷ rest) ≡ record { line = more; rest = rest; ends = true }
     unfolding held_line
-    held_feed q = rw (drop-cons block i 0 h, add-one i, eq-eqb (at block i) 10 q)
+    held_long g = rw (ne_eqb b 10 d, ← e, lt-ltb 6144 (length more) g)
 
-    module _ (d : at block i ≢ 10) where
-      -- what the byte leads to
-      held_cons : (t : Bool) → too_long (lengthened l (at block i)) ≡ t
-          → held_line l (drop i block) ≡ cond t (record { line = lengthened l (at block i); rest = drop (i + 1) block; ends = true }) (held_line (lengthened l (at block i)) (drop (i + 1) block))
-      unfolding held_line
-      held_cons t q = rw (drop-cons block i 0 h, add-one i, ne_eqb (at block i) 10 d)
-          (ap (λ (b : Bool). cond b (record { line = lengthened l (at block i); rest = drop (suc i) block; ends = true }) (held_line (lengthened l (at block i)) (drop (suc i) block))) q)
-
-      module _ (line : List ℕ) (count : ℕ) (whole : length line ≡ 6145) (e : take count line ≡ lengthened l (at block i)) where
-        pub held_long : 6144 < count → record { line = take count line; rest = drop (i + 1) block; ends = true } ≡ held_line l (drop i block)
-        held_long g =
-            ap (λ (x : List ℕ). record { line = x; rest = drop (i + 1) block; ends = true }) e
-            ∙ sym (held_cons true (ap too_long (sym e) ∙ lt-ltb 6144 (length (take count line)) (omega (arith, length-take count line))))
-
-        pub held_byte : count ≤ 6144 → held_line l (drop i block) ≡ held_line (take count line) (drop (i + 1) block)
-        held_byte g =
-            held_cons false (ap too_long (sym e) ∙ le-ltb 6144 (length (take count line)) (omega (arith, length-take count line)))
-            ∙ ap (λ (x : List ℕ). held_line x (drop (i + 1) block)) (sym e)
+    pub held_byte : length more ≤ 6144 → held_line l (b ∷ rest) ≡ held_line more rest
+    unfolding held_line
+    held_byte g = rw (ne_eqb b 10 d, ← e, le-ltb 6144 (length more) g)
 
 -- a line that does not end takes all that is left
 pub held_all : (block l : List ℕ) → (held_line l block).ends ≡ false → (held_line l block).rest ≡ []

@@ -6,6 +6,7 @@ ghost use Rattle.std.specs.Prelude.{◌≡◌, true, [], ◌∷◌, ◌++◌, �
 ghost use Rattle.transcript.specs.Transcript.{held_line, held_in};
 
 // Holds one more byte of a line, and gives the count of its bytes; 6,145 of a line are enough.
+#[tactic(auto, using(crate::proofs::Holding::hold_full, crate::proofs::Holding::hold_more))]
 fn hold(line: &mut [u8], held: usize, byte: u8) -> usize
     requires { length line.old ≡ 6145 }
     ensures { take result line.new ≡ take 6145 (take held line.old ++ (byte ∷ [])) }
@@ -32,29 +33,26 @@ pub fn hold_line(line: &mut [u8], held: usize, block: &[u8], from: usize) -> Hel
     ensures next_in_bounds { (result.next ≤ length block.now) × (result.ends ≡ true → from < result.next) }
 {
     let mut count = held;
-    let mut i = from;
-    while i < block.len() {
-        let byte = block[i];
-        if byte == b'\n' {
+    for (i, byte) in block[from..].iter().enumerate() {
+        if *byte == b'\n' {
             return Held {
                 held: count,
-                next: i + 1,
+                next: from + i + 1,
                 ends: true,
             };
         }
-        count = hold(line, count, byte);
-        i += 1;
+        count = hold(line, count, *byte);
         if 6144 < count {
             return Held {
                 held: count,
-                next: i,
+                next: from + i + 1,
                 ends: true,
             };
         }
     }
     Held {
         held: count,
-        next: i,
+        next: block.len(),
         ends: false,
     }
 }
