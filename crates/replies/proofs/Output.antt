@@ -1,7 +1,6 @@
 -- Document 01's output, line by line, computed from the definitions.
 -- One line of each reply.
-use mathlib.Core.Path.{◌≡◌, refl}
-use mathlib.Core.List.{[], ◌∷◌, map}
+use Rattle.std.proofs.Common.{◌≡◌, [], ◌∷◌, map, refl}
 use Rattle.lines.specs.Writing.{ascii, decimal_in, decimal, spaced, separated, bracketed}
 use Rattle.replies.specs.Replies.{opened, new, refused, closed, walked, cleared, unread, reply}
 

@@ -2,80 +2,37 @@
 // A place is an index into the slice; bytes are written from there on.
 #![tactic(auto)]
 
-ghost use Rattle.std.specs.Prelude.{[], ◌∷◌, map, ◌+◌, ◌*◌, ◌%◌, ◌≤◌, ◌<◌, length};
+ghost use Rattle.std.specs.Prelude.{◌∷◌, map, ◌+◌, ◌*◌, ◌≤◌, length};
 ghost use Rattle.lines.specs.Writing.{decimal, spaced, separated};
+ghost use Rattle.refusals.specs.Refusals.{number, place};
 ghost use Rattle.replies.specs.Replies.{head, line, reply, opened, new, refused, closed, walked, cleared, unread, Wrote, Printed};
+
+use refusals::Refusal;
 
 // Writes bytes from index at on, and gives the index after them.
 fn put(out: &mut [u8], at: usize, bytes: &[u8]) -> usize
     requires { at + length bytes.now ≤ length out.old }
     ensures { Wrote at bytes.now out.old result out.new }
 {
-    let mut next = at;
-    let mut k = 0;
-    while k < bytes.len() {
-        out[next] = bytes[k];
-        next += 1;
-        k += 1;
-    }
-    next
+    let end = at + bytes.len();
+    out[at..end].copy_from_slice(bytes);
+    end
 }
 
-// Writes the last digit of a number at index at, and gives the index after it.
-fn put_digit(out: &mut [u8], at: usize, n: u16) -> usize
-    requires { at < length out.old }
-    ensures { Wrote at ((48 + n % 10) ∷ []) out.old result out.new }
-{
-    out[at] = b'0' + (n % 10) as u8;
-    at + 1
-}
-
-// Writes a number of two digits from index at on, and gives the index after it.
-fn put_two(out: &mut [u8], at: usize, n: u16) -> usize
-    requires { (10 ≤ n) × (n < 100) × (at + length (decimal n) ≤ length out.old) }
-    ensures { Wrote at (decimal n) out.old result out.new }
-{
-    let next = put_digit(out, at, n / 10);
-    put_digit(out, next, n)
-}
-
-// The same of three digits.
-fn put_three(out: &mut [u8], at: usize, n: u16) -> usize
-    requires { (100 ≤ n) × (n < 1000) × (at + length (decimal n) ≤ length out.old) }
-    ensures { Wrote at (decimal n) out.old result out.new }
-{
-    let next = put_two(out, at, n / 10);
-    put_digit(out, next, n)
-}
-
-// The same of four digits.
-fn put_four(out: &mut [u8], at: usize, n: u16) -> usize
-    requires { (1000 ≤ n) × (n < 10000) × (at + length (decimal n) ≤ length out.old) }
-    ensures { Wrote at (decimal n) out.old result out.new }
-{
-    let next = put_three(out, at, n / 10);
-    put_digit(out, next, n)
-}
-
-// Writes a number in decimal from index at on, by the count of its digits, and gives the index after it.
+// Writes a number in decimal from index at on, a digit for each power of ten up to it and the last one, and gives the index after it.
 fn put_number(out: &mut [u8], at: usize, n: u16) -> usize
     requires { at + length (decimal n) ≤ length out.old }
     ensures { Wrote at (decimal n) out.old result out.new }
 {
-    if n < 10 {
-        return put_digit(out, at, n);
+    let mut next = at;
+    for power in [10000, 1000, 100, 10] {
+        if power <= n {
+            out[next] = b'0' + (n / power % 10) as u8;
+            next += 1;
+        }
     }
-    if n < 100 {
-        return put_two(out, at, n);
-    }
-    if n < 1000 {
-        return put_three(out, at, n);
-    }
-    if n < 10000 {
-        return put_four(out, at, n);
-    }
-    let next = put_four(out, at, n / 10);
-    put_digit(out, next, n)
+    out[next] = b'0' + (n % 10) as u8;
+    next + 1
 }
 
 // Writes numbers from index at on, each after one space, and gives the index after them.
@@ -84,11 +41,9 @@ fn put_spaced(out: &mut [u8], at: usize, numbers: &[u16]) -> usize
     ensures { Wrote at (spaced (map decimal numbers.now)) out.old result out.new × (result ≤ at + 6 * length numbers.now) }
 {
     let mut next = at;
-    let mut k = 0;
-    while k < numbers.len() {
+    for number in numbers {
         out[next] = b' ';
-        next = put_number(out, next + 1, numbers[k]);
-        k += 1;
+        next = put_number(out, next + 1, *number);
     }
     next
 }
@@ -98,11 +53,11 @@ fn put_separated(out: &mut [u8], at: usize, numbers: &[u16]) -> usize
     requires { at + 6 * length numbers.now ≤ length out.old }
     ensures { Wrote at (separated (map decimal numbers.now)) out.old result out.new × (result ≤ at + 6 * length numbers.now) }
 {
-    if numbers.len() == 0 {
+    let Some((first, others)) = numbers.split_first() else {
         return at;
-    }
-    let next = put_number(out, at, numbers[0]);
-    put_spaced(out, next, &numbers[1..])
+    };
+    let next = put_number(out, at, *first);
+    put_spaced(out, next, others)
 }
 
 // Writes the opening bracket, a word and numbers, each after one space, and gives the index after them.
@@ -129,8 +84,7 @@ pub fn write_opened(out: &mut [u8], switches: u16, links: u16) -> usize
     requires { 32 ≤ length out.old }
     ensures { Printed (reply (opened switches links)) out.old result out.new }
 {
-    let numbers = [switches, links];
-    write_line(out, b"opened", &numbers)
+    write_line(out, b"opened", &[switches, links])
 }
 
 // Writes the reply to an ear that is accepted: its number of new switches.
@@ -138,17 +92,16 @@ pub fn write_new(out: &mut [u8], count: u16) -> usize
     requires { 32 ≤ length out.old }
     ensures { Printed (reply (new count)) out.old result out.new }
 {
-    let numbers = [count];
-    write_line(out, b"new", &numbers)
+    write_line(out, b"new", &[count])
 }
 
 // Writes the reply to a call that is refused: the refusal's number and its place.
-pub fn write_refused(out: &mut [u8], number: u8, place: u16) -> usize
+pub fn write_refused(out: &mut [u8], refusal: Refusal) -> usize
     requires { 32 ≤ length out.old }
-    ensures { Printed (reply (refused number place)) out.old result out.new }
+    ensures { Printed (reply (refused (number refusal) (place refusal))) out.old result out.new }
 {
-    let numbers = [number as u16, place];
-    write_line(out, b"refused", &numbers)
+    let number = refusal.number();
+    write_line(out, b"refused", &[u16::from(number), refusal.place()])
 }
 
 // Writes the reply to a close that succeeds.
@@ -172,8 +125,7 @@ pub fn write_unread(out: &mut [u8], number: u16) -> usize
     requires { 32 ≤ length out.old }
     ensures { Printed (reply (unread number)) out.old result out.new }
 {
-    let numbers = [number];
-    write_line(out, b"unread", &numbers)
+    write_line(out, b"unread", &[number])
 }
 
 // Writes the reply to a walk: its switch, its tree and its switches; 1,024 switches have room in 6,166 bytes.
@@ -181,8 +133,7 @@ pub fn write_walk(out: &mut [u8], switch: u16, tree: u16, switches: &[u16]) -> u
     requires { 22 + 6 * length switches.now ≤ length out.old }
     ensures { Printed (reply (walked switch tree switches.now)) out.old result out.new }
 {
-    let numbers = [switch, tree];
-    let next = put_head(out, &lines::WALK, &numbers);
+    let next = put_head(out, &lines::WALK, &[switch, tree]);
     let inner = put(out, next, b" (");
     let end = put_separated(out, inner, switches);
     put(out, end, b"))\n")

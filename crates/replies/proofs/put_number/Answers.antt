@@ -1,24 +1,25 @@
-use native.Mathlib.Omega.{arith}
-use Rattle.lines.proofs.Decimals.{decimal_some, tenth_length}
-use Rattle.replies.proofs.Slices.{wrote_digit, wrote_tenth}
+use Rattle.std.proofs.Common.{◌≡◌, ◌/◌, arith}
+use Rattle.replies.proofs.Slices.{wrote_none}
+use Rattle.replies.proofs.Digits.{power_at, room, digit_more, digit_none, digit_last}
 use Rattle.replies.proofs.put_number.Goals as goal
+use Rattle.replies.proofs.put_number.Goals.{then-power-n, else-power-n}
 
-pub put_digit-requires : goal.put_digit-requires
-put_digit-requires c =
-    omega (arith, decimal_some c.args.n)
+pub loop-power-init : goal.loop-power-init
+loop-power-init c = let z : c.args.n / 100000 ≡ 0 = omega arith in rw z (wrote_none c.args.at c.args.out.now)
 
-pub returns-then-n-lt10 : goal.returns-then-n-lt10
-returns-then-n-lt10 c =
-    wrote_digit c.args.at c.args.n c.args.out.now c.if-n-lt10.true c.put_digit.ensures
+pub bounds-out-next : goal.bounds-out-next
+bounds-out-next c = room c.args.at c.args.n c.args.out.now c.loop-power.power-index c.loop-power.next c.loop-power.out c.requires c.loop-power.auto.out (omega arith) c.loop-power.invariant
 
-pub put_four-next-requires : goal.put_four-next-requires
-put_four-next-requires c =
-    (omega (arith, c.if-n-lt10000.false), omega arith, omega (arith, tenth_length c.args.n (omega (arith, c.if-n-lt10000.false))))
+pub loop-power-preserved : goal.loop-power-preserved
+loop-power-preserved c =
+    let p = power_at c.loop-power.power-index c.loop-power-test.true in
+    elim c.if-power-n.branch [
+      | then-power-n w ↦ rw (w.out-is, w.next-is) (digit_more c.args.at c.args.n c.args.out.now c.loop-power.power-index c.loop-power.next c.loop-power.out c.requires c.loop-power.auto.out (omega arith) c.loop-power.invariant _ p w.if-power-n.true)
+      | else-power-n w ↦ rw (w.out-is, w.next-is) (digit_none c.args.at c.args.n c.args.out.now c.loop-power.power-index c.loop-power.next c.loop-power.out c.requires c.loop-power.auto.out (omega arith) c.loop-power.invariant _ p w.if-power-n.false)
+    ]
 
-pub put_digit-requires-2 : goal.put_digit-requires-2
-put_digit-requires-2 c =
-    omega (arith, c.put_four-next.ensures.ended, c.put_four-next.auto.out, tenth_length c.args.n (omega (arith, c.if-n-lt10000.false)))
+pub bounds-out-next-2 : goal.bounds-out-next-2
+bounds-out-next-2 c = room c.args.at c.args.n c.args.out.now c.loop-power.power-index c.loop-power.next c.loop-power.out c.requires c.loop-power.auto.out (omega arith) c.loop-power.invariant
 
 pub returns : goal.returns
-returns c =
-    wrote_tenth c.args.at c.args.n c.args.out.now (omega (arith, c.if-n-lt10000.false)) (omega arith) c.put_four-next.ensures c.put_digit-2.ensures
+returns c = digit_last c.args.at c.args.n c.args.out.now c.loop-power.power-index c.loop-power.next c.loop-power.out c.requires c.loop-power.auto.out (omega arith) c.loop-power.invariant (omega arith)

@@ -1,35 +1,28 @@
-use Prim.Native.Nat.{◌≤◌, ◌<◌, ◌-◌}
-use mathlib.Core.Path.{◌∙◌}
-use native.Mathlib.Omega.{arith}
-use lib.ListN.{length, get_or, drop, length-take, length-drop}
-use Rattle.lines.specs.Writing.{decimal}
-use Rattle.lines.proofs.Decimals.{decimal_short}
-use Rattle.replies.proofs.Slices.{wrote_none, wrote_more, separated_none, separated_first}
+use Rattle.std.proofs.Common.{arith}
+use Rattle.std.proofs.lemmas.List.{nil_from_length}
+use Rattle.lines.specs.Writing.{decimal, separated}
+use Rattle.replies.proofs.Slices.{wrote_none, wrote_more, short_at}
 use Rattle.replies.proofs.put_separated.Goals as goal
 
-pub returns-then-numbers-eq0 : goal.returns-then-numbers-eq0
-returns-then-numbers-eq0 c = (rw (separated_none c.args.numbers.now c.if-numbers-eq0.true) (wrote_none c.args.at c.args.out.now), omega arith)
+pub returns-in_default : goal.returns-in_default
+unfolding separated
+returns-in_default c =
+    (rw (nil_from_length c.args.numbers.now c.in_default.ensures.cases) (wrote_none c.args.at c.args.out.now), omega arith)
 
 pub put_number-next-requires : goal.put_number-next-requires
 put_number-next-requires c =
-    let x = get_or c.args.numbers.now 0 0 in
-    let b : x ≤ 65535 = omega (arith, c.type_inv.numbers 0) in
-    omega (arith, decimal_short x b)
+    let short = rw c.in-Some.ensures.cases.0 at (short_at c.args.numbers.now c.type_inv.numbers 0) in
+    omega (arith, c.in-Some.ensures.cases.1)
 
 pub put_spaced-requires : goal.put_spaced-requires
 put_spaced-requires c =
-    let x = get_or c.args.numbers.now 0 0 in
-    let b : x ≤ 65535 = omega (arith, c.type_inv.numbers 0) in
-    omega (arith, decimal_short x b, c.put_number-next.ensures.ended, c.put_number-next.auto.out, length-take (length c.args.numbers.now - 1) (drop 1 c.args.numbers.now), length-drop 1 c.args.numbers.now)
-
-pub shape_of-out : goal.shape_of-out
-shape_of-out c = c.put_spaced.auto.out ∙ c.put_number-next.auto.out
+    let short = rw c.in-Some.ensures.cases.0 at (short_at c.args.numbers.now c.type_inv.numbers 0) in
+    omega (arith, c.in-Some.ensures.cases.1)
 
 pub returns : goal.returns
+unfolding separated
 returns c =
-    let x = get_or c.args.numbers.now 0 0 in
-    let b : x ≤ 65535 = omega (arith, c.type_inv.numbers 0) in
-    let h : 0 < length c.args.numbers.now = omega arith in (
-      rw (separated_first c.args.numbers.now h) (wrote_more c.args.at (decimal x) c.args.out.now _ _ (omega arith) c.put_number-next.ensures _ _ _ c.put_spaced.ensures.0),
-      omega (arith, decimal_short x b, c.put_number-next.ensures.ended, c.put_spaced.ensures.1, length-take (length c.args.numbers.now - 1) (drop 1 c.args.numbers.now), length-drop 1 c.args.numbers.now),
+    let short = rw c.in-Some.ensures.cases.0 at (short_at c.args.numbers.now c.type_inv.numbers 0) in (
+      rw c.in-Some.ensures.cases.0 (wrote_more c.args.at (decimal c.in-Some.first.now) c.args.out.now _ _ (omega arith) c.put_number-next.ensures _ _ _ c.put_spaced.ensures.0),
+      omega (arith, c.in-Some.ensures.cases.1),
     )

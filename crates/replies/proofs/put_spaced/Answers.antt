@@ -1,37 +1,18 @@
-use Prim.Native.Nat.{◌≤◌}
-use mathlib.Core.Path.{refl, ◌∙◌}
-use native.Mathlib.Omega.{arith}
-use lib.ListN.{get_or, length-set}
-use borrow.Author.Rules.{rules}
+use Rattle.std.proofs.Common.{arith, length-set}
 use Rattle.lines.specs.Writing.{spaced}
-use Rattle.lines.proofs.Decimals.{decimal_short}
-use Rattle.replies.proofs.Slices.{wrote_none, wrote_one, wrote_number}
-use lib.Seq.{take_all}
+use Rattle.replies.proofs.Slices.{wrote_none, wrote_one, wrote_number, short_at}
 use Rattle.replies.proofs.put_spaced.Goals as goal
 
-pub loop-k-init : goal.loop-k-init
+pub loop-number-init : goal.loop-number-init
 unfolding spaced
-loop-k-init c = (search rules, omega arith, refl, wrote_none c.args.at c.args.out.now)
+loop-number-init c = record { short = omega arith; wrote = wrote_none c.args.at c.args.out.now }
 
 pub put_number-next-requires : goal.put_number-next-requires
 put_number-next-requires c =
-    let x = get_or c.args.numbers.now c.loop-k.k 0 in
-    let b : x ≤ 65535 = omega (arith, c.type_inv.numbers c.loop-k.k) in
-    omega (arith, length-set c.loop-k.out c.loop-k.next 32, decimal_short x b)
+    omega (arith, length-set c.loop-number.out c.loop-number.next 32, short_at c.args.numbers.now c.type_inv.numbers c.loop-number.number-index)
 
-pub loop-k-preserved : goal.loop-k-preserved
-loop-k-preserved c =
-    let x = get_or c.args.numbers.now c.loop-k.k 0 in
-    let b : x ≤ 65535 = omega (arith, c.type_inv.numbers c.loop-k.k) in (
-      search rules,
-      omega (arith, c.put_number-next.ensures.ended, decimal_short x b),
-      c.put_number-next.auto.out ∙ length-set c.loop-k.out c.loop-k.next 32 ∙ c.loop-k.invariant.2,
-      wrote_number c.args.at c.args.numbers.now c.args.out.now c.loop-k.next c.loop-k.out c.loop-k.k _ _ _ _ (omega arith) c.loop-k-test.true c.loop-k.invariant.3 (wrote_one c.loop-k.next 32 c.loop-k.out (omega arith)) c.put_number-next.ensures,
-    )
-
-pub shape_of-out : goal.shape_of-out
-shape_of-out c = c.loop-k.invariant.2
-
-pub returns : goal.returns
-returns c =
-    (rw (take_all c.loop-k.k c.args.numbers.now c.loop-k-test.false) at c.loop-k.invariant.3, omega arith)
+pub loop-number-preserved : goal.loop-number-preserved
+loop-number-preserved c = record {
+  short = omega (arith, short_at c.args.numbers.now c.type_inv.numbers c.loop-number.number-index);
+  wrote = wrote_number c.args.at c.args.numbers.now c.args.out.now c.loop-number.next c.loop-number.out c.loop-number.number-index _ _ _ _ (omega arith) c.loop-number-test.true c.loop-number.invariant.wrote (wrote_one c.loop-number.next 32 c.loop-number.out (omega arith)) c.put_number-next.ensures;
+}

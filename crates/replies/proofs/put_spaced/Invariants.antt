@@ -1,13 +1,10 @@
-use Prim.Native.Nat.{◌≤◌, ◌+◌, ◌-◌, ◌*◌}
-use mathlib.Core.Path.{◌≡◌}
-use lib.ListN.{length, take}
-use mathlib.Core.List.{map}
+use Rattle.std.proofs.Common.{◌+◌, ◌*◌, ◌≤◌, map, take}
 use Rattle.lines.specs.Writing.{decimal, spaced}
 use Rattle.replies.specs.Replies.{Wrote}
 use Rattle.replies.proofs.put_spaced.Given as goal
 
-abbrev pub invariant-loop-k : goal.invariant-loop-k
-invariant-loop-k l = (l.k ≤ length l.numbers) × (l.next ≤ l.at + 6 * l.k) × (length l.out ≡ length l.initial.out) × Wrote l.at (spaced (map decimal (take l.k l.numbers))) l.initial.out l.next l.out
-
-abbrev pub decreases-loop-k : goal.decreases-loop-k
-decreases-loop-k l = length l.numbers - l.k
+abbrev pub invariant-loop-number : goal.invariant-loop-number
+invariant-loop-number l = record {
+  short : l.next ≤ l.at + 6 * l.number-index;
+  wrote : Wrote l.at (spaced (map decimal (take l.number-index l.numbers))) l.initial.out l.next l.out;
+}
