@@ -2,7 +2,7 @@
 // A number past the end of a row reads as 0, and a store past it changes nothing.
 #![tactic(auto)]
 
-ghost use Rattle.std.specs.Prelude.{◌≡◌, min, length, set, replicate, slice_index_or};
+ghost use Rattle.std.specs.Prelude.{◌≡◌, min, length, set, replicate, slice_index_or, take};
 ghost use Rattle.mondschein.specs.Network.{at};
 ghost use Rattle.mondschein.specs.Order.{position};
 
@@ -91,4 +91,11 @@ pub fn store_at<T: Copy>(row: &mut [T], i: usize, x: T)
     if i < row.len() {
         row[i] = x;
     }
+}
+
+// The first numbers of a list: so many, and no more than there are.
+pub fn prefix<T: Copy>(list: &[T], count: usize) -> &[T]
+    ensures { result.now ≡ take count list.now }
+{
+    &list[..count.min(list.len())]
 }
