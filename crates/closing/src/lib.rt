@@ -8,25 +8,18 @@ ghost use Rattle.network.specs.Load.{table_of};
 ghost use Rattle.rows.specs.Rows.{marked};
 ghost use Rattle.closing.specs.Closing.{close_answer};
 
-// The answer to close: closed, or a refusal's number and place.
-#[derive(Clone, Copy)]
-pub enum Close {
-    Closed,
-    Refused(u8, u16),
-}
+use refusals::Refusal;
 
 // 23: closed, or the lowest unused link. At most 4,096 links, so that its place fits.
-pub fn check_used(links: &[u16], used: &[u8]) -> Close
+pub fn check_used(links: &[u16], used: &[u8]) -> Result<(), Refusal>
     requires { length links.now ≤ 8193 }
     ensures { close_answer result ≡ closing (table_of links.now) (marked used.now) }
 {
     let m = links.len() / 2;
-    let mut i = 0;
-    while i < m {
+    for i in 0..m {
         if rows::mark_at(used, i) == 0 {
-            return Close::Refused(23, i as u16);
+            return Err(Refusal::UnusedLink(i as u16));
         }
-        i += 1;
     }
-    Close::Closed
+    Ok(())
 }
