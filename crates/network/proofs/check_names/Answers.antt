@@ -7,6 +7,7 @@ use Rattle.mondschein.specs.Judge.{checked, numbered, wrong_names, missing_link,
 use Rattle.mondschein.proofs.Checks.{check_fail, check_pass}
 use Rattle.network.specs.Load.{network_of, table_of}
 use Rattle.network.proofs.check_names.Goals as goal
+use Rattle.network.proofs.check_names.Goals.{then-not-joined-via-then-not-joined, then-not-joined-via-else-not-joined+then-not-joined-2}
 
 -- check 6 asks the table alone
 module _ (n : ℕ) (links : List ℕ) (root first last k : ℕ) where
@@ -32,16 +33,11 @@ unfolding loading_by checked numbered load_checks wrong_names
 returns-then-not-joined c =
     sym
     (check_pass _ _ _ _ (λ k l. sym c.wrong_names.ensures ∙ c.if-wrong_names.false)
-    ∙ check_fail _ _ _ (no_first _ _ _ _ _ _ (sym c.joined.ensures ∙ c.if-not-joined.true)))
-
-pub returns-then-not-joined-2 : goal.returns-then-not-joined-2
-unfolding loading_by checked numbered load_checks wrong_names
-returns-then-not-joined-2 c =
-    sym
-    (check_pass _ _ _ _ (λ k l. sym c.wrong_names.ensures ∙ c.if-wrong_names.false)
     ∙ check_fail _ _ _
-    (no_last c.args.n c.args.links.now c.args.root c.args.first c.args.last 0 (sym c.joined.ensures ∙ c.if-not-joined.false)
-    (sym c.joined-2.ensures ∙ c.if-not-joined-2.true)))
+    (elim c.then-not-joined.branch [
+      | then-not-joined-via-then-not-joined w ↦ no_first _ _ _ _ _ _ (sym c.joined.ensures ∙ w.if-not-joined.true)
+      | then-not-joined-via-else-not-joined+then-not-joined-2 w ↦ no_last c.args.n c.args.links.now c.args.root c.args.first c.args.last 0 (sym c.joined.ensures ∙ w.if-not-joined.false) (sym w.joined-else-not-joined.ensures ∙ w.if-not-joined-2.true)
+    ]))
 
 pub returns : goal.returns
 unfolding loading_by checked numbered load_checks wrong_names size
@@ -50,4 +46,4 @@ returns c =
     (check_pass _ _ _ _ (λ k l. sym c.wrong_names.ensures ∙ c.if-wrong_names.false)
     ∙ check_pass _ _ _ _
     (λ k l. both _ _ _ _ _ _ (sym c.joined.ensures ∙ c.if-not-joined.false)
-    (sym c.joined-2.ensures ∙ c.if-not-joined-2.false)))
+    (sym c.joined-else-not-joined.ensures ∙ c.if-not-joined-2.false)))

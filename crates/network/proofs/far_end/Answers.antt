@@ -1,9 +1,6 @@
 use Rattle.network.specs.Load.{table_of}
-use Rattle.network.proofs.Indexing.{other_within, other_end}
+use Rattle.network.proofs.Indexing.{other_end}
 use Rattle.network.proofs.far_end.Goals as goal
-
-pub bounds-links-h : goal.bounds-links-h
-bounds-links-h c = other_within c.args.h c.requires
 
 pub returns : goal.returns
 returns c = other_end c.args.h (table_of c.args.links.now)

@@ -1,18 +1,11 @@
-use mathlib.Core.Path.{sym, ◌∙◌}
-use Rattle.mondschein.specs.Network.{link_of}
-use Rattle.network.proofs.Tables.{searched_begin, searched_hit, searched_miss, searched_end}
+use Rattle.std.proofs.Common.{ℕ, rules, tests}
+use Rattle.mondschein.specs.Network.{size, joins, link_of}
+use Rattle.network.specs.Load.{table_of}
+use Rattle.network.proofs.Tables.{found_by_find}
 use Rattle.network.proofs.link_of.Goals as goal
 
-pub loop-i-init : goal.loop-i-init
-loop-i-init c = searched_begin _ _
-
-pub returns-then-link_joins : goal.returns-then-link_joins
-unfolding link_of
-returns-then-link_joins c = searched_hit _ _ _ _ c.loop-i.invariant c.loop-i-test.true (sym c.link_joins.ensures ∙ c.if-link_joins.true)
-
-pub loop-i-preserved : goal.loop-i-preserved
-loop-i-preserved c = searched_miss _ _ _ _ c.loop-i.invariant c.loop-i-test.true (sym c.link_joins.ensures ∙ c.if-link_joins.false)
-
 pub returns : goal.returns
-unfolding link_of
-returns c = searched_end _ _ _ _ c.loop-i.invariant c.loop-i-test.false
+unfolding size link_of
+returns c =
+    let f = found_by_find (λ (i : ℕ). joins (table_of c.args.links.now) i c.args.a c.args.b) _ _ _ _ c.find.ensures.ran (λ x b q h. search (rules, tests)) in
+    record { lowest = f.lowest; within = f.within }
