@@ -1,15 +1,8 @@
 -- Laws of the chains of half-links: no link, one link more, and a half-link that leads to a later birth is of two neighbours, as any
 -- two neighbours of which one is born later have one.
-use mathlib.Core.Path.{◌≡◌, refl, sym, ap, ◌∙◌, subst}
-use mathlib.Core.Logic.{◌⊎◌, inl, inr, ⊎_elim, ◌≢◌}
-use mathlib.Core.Bool.{true}
-use mathlib.Core.List.{List}
-use Prim.Native.Nat.{ℕ, suc, ◌+◌, ◌*◌, ◌/◌, ◌≤◌, ◌<◌}
-use native.Mathlib.Omega.{arith}
-use lib.Dec.{ltb}
-use lib.ListN.{get_or-eq_default, length, set, length-set, replicate, length-replicate, get_or-replicate}
-use lib.Seq.{get_or-set_same, get_or-set_other}
-use borrow.Author.Tests.{ltb-true, lt-ltb}
+use Rattle.std.proofs.Common.{◌≡◌, refl, sym, ap, ◌∙◌, subst, ◌⊎◌, inl, inr, ⊎_elim, ◌≢◌, true, List, ℕ, suc, ◌+◌, ◌*◌, ◌/◌, ◌≤◌, ◌<◌, arith, ltb, length, set, length-set, replicate, get_or-set_same, get_or-set_other, ltb-true, lt-ltb}
+use Rattle.std.proofs.Math.ListN.{get_or-eq_default}
+use Rattle.std.proofs.lemmas.List.{length-replicate, get_or-replicate}
 use Rattle.mondschein.specs.Network.{at, size, former, latter, joins, joined}
 use Rattle.mondschein.specs.Order.{is_later}
 use Rattle.mondschein.proofs.Logic.{less?, same?, and_true, true_and}
@@ -18,7 +11,7 @@ use Rattle.network.specs.Index.{far_end}
 use Rattle.network.specs.Load.{network_of, table_of}
 use Rattle.network.proofs.Indexing.{far_former, far_latter, half_joins, joins_half}
 use Rattle.thirds.specs.Tree3.{birth_read}
-use Rattle.thirds.specs.Chains.{Rises, LowestRising, ChainedFrom, Linked}
+use Rattle.thirds.specs.Chains.{Rises, LowestRising, ChainedFrom}
 
 -- the births that are read
 module _ (births : List ℕ) where
@@ -74,10 +67,6 @@ module _ (links : List ℕ) (b : ℕ → ℕ) where
     where
       none : (k : ℕ) → LowestRising links b k (2 * size (table_of links)) 8192
       none k = record { from = omega (arith, l); own = λ m. absurd (omega (arith, l, m)); before = λ m p q r. absurd (omega (arith, p, r.0)) }
-
-  -- all links
-  pub chained_linked : {heads nexts : List ℕ} → length links ≤ 8193 → ChainedFrom links b 0 heads nexts → Linked links nexts
-  chained_linked l c = record { fits = l; long = c.long.1; rise = c.rise }
 
   -- one link more
   module _ (i : ℕ) (heads nexts : List ℕ) (c : ChainedFrom links b (suc i) heads nexts) where

@@ -1,15 +1,7 @@
 -- Laws of the row of tree 3 and of the distances while the half-links are followed: nothing followed, one half-link more, one chain
 -- more, all chains. A switch whose half-links to later births are all followed has its distance.
-use mathlib.Core.Path.{◌≡◌, refl, sym, ap, ◌∙◌, subst}
-use mathlib.Core.Logic.{◌⊎◌, inl, inr, ⊎_elim, ◌≢◌}
-use mathlib.Core.Bool.{Bool, true, ◌&&◌, cond}
-use mathlib.Core.List.{List}
-use Prim.Native.Nat.{ℕ, suc, ◌+◌, ◌*◌, ◌/◌, ◌≤◌, ◌<◌}
-use native.Mathlib.Omega.{arith}
-use lib.Dec.{eqb}
-use lib.ListN.{length, set, length-set, replicate, length-replicate, get_or-replicate}
-use lib.Seq.{get_or-set_same, get_or-set_other, ext_get_or}
-use borrow.Author.Tests.{eqb-true, eq-eqb, ne_eqb}
+use Rattle.std.proofs.Common.{◌≡◌, refl, sym, ap, ◌∙◌, subst, ◌⊎◌, inl, inr, ⊎_elim, ◌≢◌, Bool, true, ◌&&◌, cond, List, ℕ, suc, ◌+◌, ◌*◌, ◌/◌, ◌≤◌, ◌<◌, arith, eqb, length, set, length-set, replicate, get_or-set_same, get_or-set_other, ext_get_or, eqb-true, eq-eqb, ne_eqb}
+use Rattle.std.proofs.lemmas.List.{length-replicate, get_or-replicate}
 use Rattle.mondschein.specs.Network.{Network, at, size}
 use Rattle.mondschein.specs.Order.{is_later, distance, shortest, taken, parent3_of}
 use Rattle.mondschein.proofs.Logic.{which, less?, same?, and_true, true_and}
@@ -109,9 +101,6 @@ module _ (n : ℕ) (links : List ℕ) (root last : ℕ) (b : ℕ → ℕ) where
 
     done_more : (j : ℕ) → Done links b (suc k) (suc h) j → (j ≢ h) → Done links b (suc k) h j
     done_more j (s, w) d = (s, ⊎_elim (λ (p : suc k ≤ b (at links j)). inl p) (λ (p : (suc (b (at links j)) ≡ suc k) × (j < suc h)). inr (p.0, omega (arith, p.1, d))) w)
-
-    far_within : 1024 ≤ far h → ⊥
-    far_within l = omega (arith, r.1, c.late (far h) l)
 
     -- it changes nothing
     nearing_keep : (at links h < 1024 → far h < n → (at dist (at links h) ≤ suc (distance net b (far h))) × (at dist (at links h) ≡ suc (distance net b (far h)) → at row (at links h) ≤ far h))
@@ -247,15 +236,6 @@ module _ (n : ℕ) (links : List ℕ) (h : ℕ) (row dist : List ℕ) {x : ℕ} 
       → at dist x ≡ distance (network_of n links root 0 last) b (far_end (table_of links) h)
   far_known root last k b r q c l = ap (at dist) e ∙ far_settled n links root last b k h row dist r q c (omega (arith, e, l))
 
-  pub half_past_n : n ≤ x → FollowsHalf n links h row dist row dist
-  half_past_n l root last k b r q c = nearing_keep n links root last b k h row dist r q c (λ p w. absurd (omega (arith, e, l, w)))
-
-  pub half_past_births : 1024 ≤ x → FollowsHalf n links h row dist row dist
-  half_past_births l root last k b r q c = absurd (far_within n links root last b k h row dist r q c (omega (arith, e, l)))
-
-  pub half_past_row : 1024 ≤ at links h → FollowsHalf n links h row dist row dist
-  half_past_row l root last k b r q c = nearing_keep n links root last b k h row dist r q c (λ p w. absurd (omega (arith, l, p)))
-
   pub half_longer : x < 1024 → at dist (at links h) ≤ at dist x → FollowsHalf n links h row dist row dist
   half_longer l m root last k b r q c =
       let z = far_known root last k b r q c l in
@@ -294,9 +274,6 @@ FollowsTo n links nexts start h row dist row' dist' =
     × Nearing (network_of n links root 0 last) birth_of (suc k) h row' dist'
 
 module _ (n : ℕ) (links nexts : List ℕ) (start : ℕ) (row dist : List ℕ) where
-  pub chain_begin : FollowsTo n links nexts start start row dist row dist
-  chain_begin root last k b heads c p q = (p.own, nearing_next n links root last b k 0 row dist start q p)
-
   module _ (h : ℕ) (row' dist' : List ℕ) (f : FollowsTo n links nexts start h row dist row' dist') where
     pub chain_next : {row'' dist'' : List ℕ} → h < 2 * size (table_of links) → FollowsHalf n links h row' dist' row'' dist''
         → FollowsTo n links nexts start (at nexts (h / 2)) row dist row'' dist''
@@ -311,13 +288,11 @@ module _ (n : ℕ) (links nexts : List ℕ) (start : ℕ) (row dist : List ℕ) 
 
 -- the chains of all births
 module _ (n : ℕ) (links heads nexts row dist : List ℕ) where
-  pub chains_begin : (k : ℕ) → k ≡ 1024 → FollowsChains n links heads nexts k row dist row dist
-  chains_begin k e root last b c q = subst (λ (u : ℕ). Nearing (network_of n links root 0 last) b u 0 row dist) (sym e) q
-
-  pub chains_more : (k j : ℕ) → suc j ≡ k → j < 1024 → {row' dist' row'' dist'' : List ℕ} → FollowsChains n links heads nexts k row dist row' dist'
-      → FollowsChain n links nexts (at heads j) row' dist' row'' dist'' → FollowsChains n links heads nexts j row dist row'' dist''
-  chains_more k j e l {row'} {dist'} f g root last b c q =
-      g root last j b heads c (c.head j l) (subst (λ (u : ℕ). Nearing (network_of n links root 0 last) b u 0 row' dist') (sym e) (f root last b c q))
+  pub chains_more : (k j start : ℕ) → suc j ≡ k → j < 1024 → start ≡ at heads j → {row' dist' row'' dist'' : List ℕ} → FollowsChains n links heads nexts k row dist row' dist'
+      → FollowsChain n links nexts start row' dist' row'' dist'' → FollowsChains n links heads nexts j row dist row'' dist''
+  chains_more k j start e l s {row'} {dist'} f g root last b c q =
+      g root last j b heads c (subst (λ (h : ℕ). LowestRising links b j 0 h) (sym s) (c.head j l))
+      (subst (λ (u : ℕ). Nearing (network_of n links root 0 last) b u 0 row' dist') (sym e) (f root last b c q))
 
 -- a row whose entry at each index is told
 entries_are : (row : List ℕ) (f : ℕ → ℕ) (w : List ℕ) → length w ≡ length row → ((v : ℕ) → v < length row → at w v ≡ f v) → w ≡ assigned row (λ v. v) f (length row)

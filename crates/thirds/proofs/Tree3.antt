@@ -1,11 +1,6 @@
 -- Laws of the row of tree 3: its length, its entries under each rule, and that it asks neither for first nor for what stood there before.
 -- A birth that is at most 1,024 is read as it is kept.
-use mathlib.Core.Path.{◌≡◌, sym, ◌∙◌}
-use mathlib.Core.List.{List}
-use Prim.Native.Nat.{ℕ, ◌≤◌, ◌<◌}
-use native.Mathlib.Omega.{arith}
-use lib.ListN.{length}
-use lib.Seq.{ext_get_or}
+use Rattle.std.proofs.Common.{◌≡◌, sym, ◌∙◌, List, ℕ, ◌≤◌, ◌<◌, arith, length, ext_get_or}
 use Rattle.mondschein.specs.Network.{Network, at}
 use Rattle.mondschein.specs.Order.{Rule, lowest, shortest, parent3_of}
 use Rattle.mondschein.proofs.Reaching.{parent3_named}

@@ -14,17 +14,15 @@ ghost use Rattle.thirds.specs.Nearing.{FollowsHalf, FollowsChain, FollowsChains}
 const END: u16 = 8192;
 
 // The birth of a switch, by long ear: there are at most 1,024.
+#[tactic(auto, unfolding(crate::specs::Tree3::birth_read))]
 fn birth(births: &[u16], v: u16) -> u16
     ensures { result ≡ birth_read births.now v }
 {
-    let number = rows::entry(births, v);
-    if number < 1024 {
-        return number;
-    }
-    1024
+    rows::entry(births, v).min(1024)
 }
 
 // Puts the half-link of link i that leads to a later birth before the others of its own switch's birth.
+#[tactic(auto, using(crate::proofs::Chaining::read_most), unfolding(mondschein::specs::Network::size))]
 fn chain_link(links: &[u16], births: &[u16], i: usize, heads: &mut [u16], nexts: &mut [u16])
     requires { ChainedFrom links.now (birth_read births.now) (suc i) heads.old nexts.old
         × (i < size (table_of links.now)) × (length links.now ≤ 8193) }
@@ -35,27 +33,25 @@ fn chain_link(links: &[u16], births: &[u16], i: usize, heads: &mut [u16], nexts:
     if a < b {
         nexts[i] = heads[a];
         heads[a] = (2 * i) as u16;
-        return;
-    }
-    if b < a {
+    } else if b < a {
         nexts[i] = heads[b];
         heads[b] = (2 * i + 1) as u16;
     }
 }
 
 // The chains of every birth, the last link first.
+#[tactic(auto, unfolding(mondschein::specs::Network::size))]
 fn chain_links(links: &[u16], births: &[u16], heads: &mut [u16], nexts: &mut [u16])
     requires { ChainedFrom links.now (birth_read births.now) (size (table_of links.now)) heads.old nexts.old × (length links.now ≤ 8193) }
     ensures { ChainedFrom links.now (birth_read births.now) 0 heads.new nexts.new }
 {
-    let mut i = links.len() / 2;
-    while 0 < i {
-        i -= 1;
+    for i in (0..links.len() / 2).rev() {
         chain_link(links, births, i, heads, nexts);
     }
 }
 
 // Takes the far end of half-link h for its own switch's parent where that makes the walk shorter, or is a lower number for the same length.
+#[tactic(auto, unfolding(mondschein::specs::Network::size))]
 fn follow_half(row: &mut [u16], dist: &mut [u16], n: u16, links: &[u16], h: usize)
     requires { (h < 2 * size (table_of links.now)) × (length row.old ≡ 1024) × (length dist.old ≡ 1024) }
     ensures { FollowsHalf n links.now h row.old dist.old row.new dist.new }
@@ -79,15 +75,13 @@ fn follow_half(row: &mut [u16], dist: &mut [u16], n: u16, links: &[u16], h: usiz
     if near + 1 < far {
         dist[v] = near + 1;
         row[v] = x;
-        return;
+    } else if x < row[v] {
+        row[v] = x;
     }
-    if row[v] <= x {
-        return;
-    }
-    row[v] = x;
 }
 
 // Follows one chain from its first half-link.
+#[tactic(auto, unfolding(mondschein::specs::Network::size))]
 fn follow_chain(row: &mut [u16], dist: &mut [u16], n: u16, links: &[u16], nexts: &[u16], start: u16)
     requires { (length row.old ≡ 1024) × (length dist.old ≡ 1024) × Linked links.now nexts.now }
     ensures { FollowsChain n links.now nexts.now start
@@ -95,6 +89,7 @@ fn follow_chain(row: &mut [u16], dist: &mut [u16], n: u16, links: &[u16], nexts:
 {
     let end = 2 * (links.len() / 2);
     let mut h = start as usize;
+    // A `while`: the turns follow a chain of half-links to its end, which is past the last one.
     while h < end {
         follow_half(row, dist, n, links, h);
         h = nexts[h / 2] as usize;
@@ -102,6 +97,7 @@ fn follow_chain(row: &mut [u16], dist: &mut [u16], n: u16, links: &[u16], nexts:
 }
 
 // Follows every chain, by falling births.
+#[tactic(auto, unfolding(mondschein::specs::Network::size))]
 fn follow_chains(
     row: &mut [u16],
     dist: &mut [u16],
@@ -114,10 +110,8 @@ fn follow_chains(
     ensures { FollowsChains n links.now heads.now nexts.now 0
         row.old dist.old row.new dist.new }
 {
-    let mut k = 1024;
-    while 0 < k {
-        k -= 1;
-        follow_chain(row, dist, n, links, nexts, heads[k]);
+    for head in heads.iter().rev() {
+        follow_chain(row, dist, n, links, nexts, *head);
     }
 }
 
@@ -126,12 +120,13 @@ fn set_nearest(row: &mut [u16], n: u16, links: &[u16], last: u16, births: &[u16]
     requires { (length row.old ≡ 1024) × (length births.now ≡ 1024) × (length links.now ≤ 8193) }
     ensures { Nearest n links.now last births.now row.old row.new }
 {
+    // The chains stand in two arrays of fixed length, since there is no heap: the first half-link of each birth, and the next of each link.
     let mut heads = [END; 1024];
     let mut nexts = [END; 4096];
     chain_links(links, births, &mut heads, &mut nexts);
     let mut dist = [n; 1024];
     rows::store(&mut dist, last, 0);
-    rows::fill(row, n);
+    row.fill(n);
     follow_chains(row, &mut dist, n, links, &heads, &nexts);
 }
 
