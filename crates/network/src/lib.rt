@@ -200,7 +200,7 @@ fn wrong_names(n: u16, root: u16, first: u16, last: u16) -> bool
 }
 
 // Some link joins a and b.
-fn joined(links: &[u16], index: &[u16], a: u16, b: u16) -> bool
+pub fn joined(links: &[u16], index: &[u16], a: u16, b: u16) -> bool
     requires { Indexed (table_of links.now) index.now }
     ensures { result ≡ joined (table_of links.now) a b }
 {

@@ -1,12 +1,6 @@
 -- The part of an ear between its ends, as the code lends it: a search of the part is one of the new indices of a later ear.
 -- An index of the part is one less than that of the ear.
-use mathlib.Core.Path.{◌≡◌, sym, ap, ◌∙◌}
-use mathlib.Core.Bool.{Bool, false, ◌&&◌}
-use mathlib.Core.List.{List}
-use Prim.Native.Nat.{ℕ, zero, suc, ◌+◌, ◌-◌, ◌≤◌, ◌<◌}
-use native.Mathlib.Omega.{arith}
-use lib.ListN.{length, take, drop, length-take, length-drop}
-use lib.Seq.{get_or-take, get_or-drop}
+use Rattle.std.proofs.Common.{◌≡◌, ℕ, zero, suc, ◌+◌, ◌-◌, ◌≤◌, ◌<◌, Bool, false, ◌&&◌, List, length, take, drop, Option, Some, None, unwrap_or, IfSome, IsSomeAnd, MatchOption, sym, ap, ◌∙◌, arith, length-take, length-drop, get_or-take, get_or-drop}
 use Rattle.mondschein.specs.Network.{low, at, is_new}
 use Rattle.mondschein.proofs.Logic.{false_and, true_and}
 use Rattle.mondschein.proofs.Search.{low_is, low_stop, low_none}
@@ -47,3 +41,13 @@ module _ (e : List ℕ) (q : ℕ → Bool) where
         sym
         (low_none (λ k. is_new false (length e) k && q (at e k)) (length e)
         (λ j m. false_and (is_new false (length e) j) _ (λ t. let (a, b) = new_between (length e) j t in before_part j a (omega arith) b)))
+
+    -- a search of the part, one index on, is a search of the ear
+    pub part_found : {Q : ℕ → ℕ → Type 0} (o s : Option ℕ) → unwrap_or o (length (part e)) ≡ r → IfSome o (λ k. k < length (part e))
+        → MatchOption o (s ≡ None) (λ k. IsSomeAnd s (Q k)) → ((k j : ℕ) → Q k j → j ≡ k + 1)
+        → unwrap_or s (length e) ≡ low (λ k. is_new false (length e) k && q (at e k)) (length e)
+    part_found None s m w h t = ap (λ (p : Option ℕ). unwrap_or p (length e)) h ∙ part_miss (omega (arith, m, part_length e))
+    part_found (Some k) None m w h t = absurd h
+    part_found (Some k) (Some j) m w h t =
+        let u : k < length (part e) = w in
+        omega (arith, t k j h, m, part_hit (omega (arith, m, u, part_length e)))

@@ -1,14 +1,7 @@
 -- The checks up to 11 in the code's terms: one law for each way that the code answers.
 -- 10, 14 and 11 stand apart, as in the code; the three before them lead to them.
-use mathlib.Core.Path.{◌≡◌, sym, ap, fun_ext, ◌∙◌}
-use mathlib.Core.Bool.{Bool, true, false, not, ◌&&◌, ◌||◌, cond}
-use mathlib.Core.List.{List, [], ◌∷◌}
-use Prim.Native.Nat.{ℕ, pred, ◌+◌, ◌≤◌, ◌<◌}
-use native.Mathlib.Omega.{arith}
-use native.Mathlib.Numerals.{add-one}
-use lib.Dec.{eqb, ltb, leb}
-use lib.ListN.{length}
-use borrow.Author.Tests.{lt-ltb, le-ltb}
+use mathlib.Core.Path.{fun_ext}
+use Rattle.std.proofs.Common.{◌≡◌, ℕ, pred, ◌+◌, ◌≤◌, ◌<◌, Bool, true, false, not, ◌&&◌, ◌||◌, cond, eqb, ltb, leb, List, [], ◌∷◌, length, Option, Some, None, is_some, unwrap_or, true≢false, sym, ap, ◌∙◌, arith, add-one, lt-ltb, le-ltb}
 use Rattle.mondschein.specs.Network.{low, any, at, size, former, latter, joins, joined, link_of, is_new, new_count}
 use Rattle.mondschein.specs.Judge.{Answer, given, refused, check, checked, numbered, ear_checks, wrong_length, too_large, repeated, not_joined, born_between, used_already, verdict_by}
 use Rattle.mondschein.proofs.Logic.{or_left, true_or, or_false, false_or}
@@ -21,14 +14,6 @@ use Rattle.shape.specs.Shape.{link_order, LinkAnswer, shape_order, ShapeAnswer}
 pub least_two : (b : Bool) → 2 ≤ cond b 3 2
 least_two true = omega arith
 least_two false = omega arith
-
-pub new_first : (b : Bool) (c : ℕ) → b ≡ true → new_count b c ≡ c
-unfolding new_count
-new_first b c h = rw h
-
-pub new_later : (b : Bool) (c : ℕ) → b ≡ false → new_count b c ≡ pred (pred c)
-unfolding new_count
-new_later b c h = rw h
 
 -- 14 is asked of a later ear only, and there between the ends
 module _ (is_born : ℕ → Bool) (b : Bool) (e : List ℕ) where
@@ -56,12 +41,13 @@ abbrev pub not_free : List ℕ → List ℕ → List ℕ → ℕ → Bool
 not_free links used e k = apart links e k || used_by (λ j. j + 1) links used e k
 
 -- 10 finds nothing: no number is apart from the next, or none has a link that is not free
-module _ (links e : List ℕ) {r : ℕ} (h : pred (length e) ≤ r) where
-  pub none_apart : r ≡ low (apart links e) (pred (length e)) → Clear (pred (length e)) (apart links e)
-  none_apart q k l = (low_is (apart links e) (pred (length e))).before k (omega arith)
+module _ (links e : List ℕ) where
+  pub none_apart : pred (length e) ≡ low (apart links e) (pred (length e)) → Clear (pred (length e)) (apart links e)
+  none_apart q k l = (low_is (apart links e) (pred (length e))).before k (omega (arith, q))
 
-  pub all_free : (used : List ℕ) → r ≡ low (not_free links used e) (pred (length e)) → Clear (pred (length e)) (apart links e)
-  all_free used q k l = (or_false (apart links e k) _ ((low_is (not_free links used e) (pred (length e))).before k (omega arith))).0
+  pub all_free : (used : List ℕ) (o : Option ℕ) → is_some o ≡ false → unwrap_or o (pred (length e)) ≡ low (not_free links used e) (pred (length e)) → Clear (pred (length e)) (apart links e)
+  all_free used None f q k l = (or_false (apart links e k) _ ((low_is (not_free links used e) (pred (length e))).before k (omega (arith, q)))).0
+  all_free used (Some i) f q k l = absurd (true≢false f)
 
 module _ (links births used : List ℕ) (b : Bool) (e : List ℕ) where
   -- 10, 14 and 11 ask of the network its links alone

@@ -1,12 +1,12 @@
 -- What the contracts over the shape of an ear cite: the marks of its numbers, document 01's values and numbers for each answer to an
 -- ear, and the part of the order of checks that it is asked.
-use Rattle.std.specs.Prelude.{◌≡◌, Bool, false, List, [], ◌∷◌, ℕ, ◌<◌, eqb, length, take, drop}
+use Rattle.std.specs.Prelude.{◌≡◌, Bool, false, List, [], ◌∷◌, ℕ, Result, ◌<◌, eqb, length, take, drop}
 use Rattle.mondschein.specs.Network.{any, at}
-use Rattle.mondschein.specs.Judge.{Answer, given, refused, check_order, verdict_by}
+use Rattle.mondschein.specs.Judge.{Answer, check_order, verdict_by}
 use Rattle.network.specs.Load.{network_of}
 use Rattle.rows.specs.Rows.{marked}
-use Rattle.shape.specs.declared.Ear.{Ear}
-use Rattle.shape.specs.declared.Ear.TheVariants.{New, Refused}
+use Rattle.refusals.specs.Refusals.{answer_of}
+use Rattle.refusals.specs.declared.Refusal.{Refusal}
 
 -- nothing is marked
 abbrev pub Unmarked : List ℕ → Type 0
@@ -17,9 +17,8 @@ abbrev pub MarksOf : List ℕ → ℕ → List ℕ → Type 0
 MarksOf ear k marks = (v : ℕ) → v < length marks → marked marks v ≡ any (λ j. eqb (at ear j) v) k
 
 -- what document 01 gives or refuses for an answer to an ear
-abbrev pub ear_answer : Ear → Answer
-ear_answer (New k) = given (k ∷ [])
-ear_answer (Refused num place) = refused num place
+abbrev pub ear_answer : Result ℕ Refusal → Answer
+ear_answer = answer_of (λ (k : ℕ). k ∷ [])
 
 -- the numbers of the checks that ask for the shape of an ear: those up to 11, and the last three of them, over its links
 abbrev pub shape_order : List ℕ

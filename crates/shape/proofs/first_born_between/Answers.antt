@@ -1,19 +1,14 @@
-use mathlib.Core.Path.{◌∙◌}
-use native.Mathlib.Omega.{arith}
+use Rattle.std.proofs.Common.{rules, tests, refl, ◌∙◌}
 use Rattle.rows.specs.Rows.{marked}
-use Rattle.shape.proofs.Between.{part_hit, part_miss}
+use Rattle.shape.proofs.Between.{part_found}
 use Rattle.shape.proofs.Shape.{first_14, later_14}
 use Rattle.shape.proofs.first_born_between.Goals as goal
 
-pub returns-then-initial : goal.returns-then-initial
-returns-then-initial c = first_14 (marked c.args.births.now) c.args.initial c.args.ear.now c.if-initial.true
+pub returns-then-initial-clause-lowest : goal.returns-then-initial-clause-lowest
+returns-then-initial-clause-lowest c = first_14 (marked c.args.births.now) c.args.initial c.args.ear.now c.if-initial.true
 
-pub returns-then-born-len : goal.returns-then-born-len
-returns-then-born-len c =
-    part_hit c.args.ear.now (marked c.args.births.now) c.first_born-born.ensures (omega arith)
-    ∙ later_14 (marked c.args.births.now) c.args.initial c.args.ear.now c.if-initial.false
-
-pub returns : goal.returns
-returns c =
-    part_miss c.args.ear.now (marked c.args.births.now) c.first_born-born.ensures (omega arith)
+pub returns-clause-lowest : goal.returns-clause-lowest
+returns-clause-lowest c =
+    part_found c.args.ear.now (marked c.args.births.now) c.first_born.ensures.lowest c.first_born.result c.map.result refl c.first_born.ensures.within
+    c.map.ensures.cases (λ k j h. search (rules, tests))
     ∙ later_14 (marked c.args.births.now) c.args.initial c.args.ear.now c.if-initial.false
