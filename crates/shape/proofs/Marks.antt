@@ -1,27 +1,14 @@
 -- Laws of an ear's marks: none at first, and one number more.
 -- A number that has no mark is searched for.
-use mathlib.Core.Path.{◌≡◌, refl, sym, ap, ◌∙◌}
-use mathlib.Core.Logic.{⊎_elim, ◌≢◌}
-use mathlib.Core.Bool.{Bool, true, false, ◌||◌}
-use mathlib.Core.List.{List, []}
-use Prim.Native.Nat.{ℕ, suc, ◌+◌, ◌≤◌}
-use native.Mathlib.Omega.{arith}
-use native.Mathlib.Numerals.{add-one}
-use lib.Dec.{eqb, ltb}
-use lib.ListN.{length, set, replicate, length-set, length-replicate, get_or-replicate}
-use lib.Seq.{get_or-set_same, get_or-set_other}
-use borrow.Author.Tests.{eq-eqb, ne_eqb}
+use Rattle.std.proofs.Common.{◌≡◌, ◌≢◌, ℕ, suc, ◌+◌, Bool, true, false, ◌||◌, eqb, ltb, List, [], length, set, replicate, refl, sym, ap, ◌∙◌, ⊎_elim, arith, add-one, length-set, get_or-set_same, get_or-set_other, eq-eqb, ne_eqb}
+use Rattle.std.proofs.lemmas.List.{length-replicate, get_or-replicate}
 use Rattle.mondschein.specs.Network.{any, at}
-use Rattle.mondschein.specs.Order.{position}
 use Rattle.mondschein.proofs.Logic.{same?}
-use Rattle.mondschein.proofs.Search.{any_low, any_suc, true_any, false_any}
+use Rattle.mondschein.proofs.Search.{any_suc, true_any, false_any}
 use Rattle.rows.specs.Rows.{marked}
 use Rattle.shape.specs.Shape.{Unmarked, MarksOf}
 
--- no marks at all: nothing is marked, and every number is searched
-pub unmarked_none : Unmarked []
-unmarked_none v l = absurd (omega arith)
-
+-- no marks at all: every number is searched
 pub marks_none : (ear : List ℕ) (k : ℕ) → MarksOf ear k []
 marks_none ear k v l = absurd (omega arith)
 
@@ -52,8 +39,3 @@ marks_more ear k marks h q = rw (q, add-one k) more
         ∙ h v (omega (arith, length-set marks (at ear k) 1, l))
         ∙ sym (any_suc (λ j. eqb (at ear j) v) k ∙ ap (λ (b : Bool). any (λ j. eqb (at ear j) v) k || b) (ne_eqb (at ear k) v (λ e. d (sym e))) ∙ or_none (any (λ j. eqb (at ear j) v) k)))
         (same? v (at ear k))
-
--- the position r of x, where it has no mark
-pub among_position : {r : ℕ} (ear : List ℕ) (k x : ℕ) → k ≤ length ear → r ≡ position ear x → ltb r k ≡ any (λ j. eqb (at ear j) x) k
-unfolding position
-among_position ear k x l q = ap (λ (p : ℕ). ltb p k) q ∙ sym (any_low (λ j. eqb (at ear j) x) (length ear) k l)

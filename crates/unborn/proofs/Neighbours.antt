@@ -1,33 +1,22 @@
 -- What the code's comparisons say of the switches that are still unborn after an ear, and of the links that lead to them.
 -- `scan` turns a search over switches into one scan of the links; `along_hit` and `along_end` into one along the half-links of a switch.
-use mathlib.Core.Path.{◌≡◌, refl, sym, ap, ◌∙◌, subst}
-use mathlib.Core.Logic.{inl, inr, ⊎_elim, ◌≢◌}
-use mathlib.Core.Bool.{Bool, true, false, not, ◌&&◌, ◌||◌}
-use Prim.Native.Nat.{ℕ, ◌*◌, ◌/◌, ◌≤◌, ◌<◌}
-use native.Mathlib.Omega.{arith}
-use lib.Dec.{eqb, ltb}
-use borrow.Author.Tests.{lt-ltb, eq-eqb, ne_eqb, ltb-true, eqb-true}
-use Rattle.mondschein.specs.Network.{Network, any, size, former, latter, Joins, joined}
-use Rattle.mondschein.proofs.Logic.{which, and_true, or_true, true_and, or_left, true_or, and_false, false_and, false_or}
+use Rattle.std.proofs.Common.{◌≡◌, ℕ, ◌*◌, ◌/◌, ◌≤◌, ◌<◌, Bool, true, false, not, ◌&&◌, ◌||◌, eqb, ltb, List, refl, sym, ap, ◌∙◌, subst, inl, inr, ⊎_elim, arith, lt-ltb, eq-eqb, ltb-true, eqb-true}
+use Rattle.mondschein.specs.Network.{Network, any, size, former, latter, Joins, joined, holds}
+use Rattle.mondschein.proofs.Logic.{and_true, or_true, true_and, or_left, true_or, and_false, false_and}
 use Rattle.mondschein.proofs.Search.{any_true, true_any, false_any}
 use Rattle.mondschein.proofs.Links.{joined_adjacent, adjacent_joined}
 use Rattle.network.specs.Index.{far_end}
 use Rattle.network.proofs.Indexing.{Followed, half_joins, joins_half}
+use Rattle.rows.specs.Rows.{marked}
 use Rattle.unborn.specs.Neighbours.{leads_to}
 
--- a test in two parts, once the first is known
-module _ (a b : Bool) where
-  pub and_failed : a ≡ false → (a && b) ≡ false
-  and_failed f = rw f
+-- x is still unborn after the ear
+abbrev pub free : List ℕ → List ℕ → ℕ → Bool
+free births ear x = not (marked births x || holds ear x)
 
-  pub and_passed : a ≡ true → (a && b) ≡ b
-  and_passed t = rw t
-
-  pub neither_failed : a ≡ true → not (a || b) ≡ false
-  neither_failed t = rw t
-
-  pub neither_passed : a ≡ false → not (a || b) ≡ not b
-  neither_passed f = rw f
+-- and below n
+abbrev pub sought : ℕ → List ℕ → List ℕ → ℕ → Bool
+sought n births ear x = ltb x n && free births ear x
 
 -- a switch next to v that passes q is at the other end of a link that leads from v to it
 module _ (net : Network) (q : ℕ → Bool) (v : ℕ) where
@@ -43,24 +32,6 @@ module _ (net : Network) (q : ℕ → Bool) (v : ℕ) where
       (λ t. let w = and_true _ _ t in (latter net i, inl (eqb-true _ _ w.0, refl), w.1))
       (λ t. let w = and_true _ _ t in (former net i, inr (refl, eqb-true _ _ w.0), w.1))
       (or_true _ _ h)
-
-  -- by its ends as written
-  pub leads_former : (i : ℕ) → former net i ≡ v → leads_to net q v i ≡ q (latter net i)
-  unfolding leads_to
-  leads_former i e =
-      rw (eq-eqb (former net i) v e)
-      (⊎_elim
-      (λ t. or_left _ _ t ∙ sym t)
-      (λ f. false_or _ _ f (false_and _ _ (λ h. ap q (e ∙ sym (eqb-true _ _ h)) ∙ f)) ∙ sym f)
-      (which (q (latter net i))))
-
-  pub leads_latter : (i : ℕ) → former net i ≢ v → latter net i ≡ v → leads_to net q v i ≡ q (former net i)
-  unfolding leads_to
-  leads_latter i d e = rw (ne_eqb (former net i) v d, eq-eqb (latter net i) v e)
-
-  pub leads_nowhere : (i : ℕ) → former net i ≢ v → latter net i ≢ v → leads_to net q v i ≡ false
-  unfolding leads_to
-  leads_nowhere i d e = rw (ne_eqb (former net i) v d, ne_eqb (latter net i) v e)
 
 both_ways : (a b : Bool) → (a ≡ true → b ≡ true) → (b ≡ true → a ≡ true) → a ≡ b
 both_ways true b f g = sym (f refl)

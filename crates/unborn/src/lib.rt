@@ -2,7 +2,7 @@
 // Births are lent as marks, 0 for unborn.
 #![tactic(auto)]
 
-ghost use Rattle.std.specs.Prelude.{◌≡◌, not, ◌&&◌, ◌||◌, ◌+◌, ◌*◌, ◌<◌, eqb, ltb, length};
+ghost use Rattle.std.specs.Prelude.{◌≡◌, not, ◌&&◌, ◌||◌, ◌+◌, ◌*◌, ◌<◌, eqb, ltb, length, unwrap_or, IfSome};
 ghost use Rattle.mondschein.specs.Network.{low, any, at, holds, joined};
 ghost use Rattle.network.specs.Index.{IndexedFrom, Indexed};
 ghost use Rattle.network.specs.Load.{table_of};
@@ -11,31 +11,19 @@ ghost use Rattle.shape.specs.Shape.{MarksOf};
 ghost use Rattle.unborn.specs.Neighbours.{leads_to};
 
 // Switch x is still unborn after the ear.
+#[tactic(auto, unfolding(mondschein::specs::Network::holds))]
 fn unborn(births: &[u16], ear: &[u16], marks: &[u8], x: u16) -> bool
     requires { MarksOf ear.now (length ear.now) marks.now }
     ensures { result ≡ not (marked births.now x || holds ear.now x) }
 {
-    if 0 < rows::entry(births, x) {
-        return false;
-    }
-    !shape::among(ear, ear.len(), marks, x)
+    rows::entry(births, x) == 0 && !shape::among(ear, ear.len(), marks, x)
 }
 
 // 15: a switch below n other than last is still unborn after the ear.
 pub fn other_unborn(n: u16, last: u16, births: &[u16], ear: &[u16]) -> bool
     ensures { result ≡ any (λ x. not (eqb x last) && not (marked births.now x || holds ear.now x)) n }
 {
-    let none = [0u8; 0];
-    let mut x: u16 = 0;
-    while x < n {
-        if x != last {
-            if unborn(births, ear, &none, x) {
-                return true;
-            }
-        }
-        x += 1;
-    }
-    false
+    (0..n).any(|x| x != last && unborn(births, ear, &[], x))
 }
 
 // Switch x is below n and still unborn after the ear.
@@ -43,13 +31,11 @@ fn unborn_below(n: u16, births: &[u16], ear: &[u16], marks: &[u8], x: u16) -> bo
     requires { MarksOf ear.now (length ear.now) marks.now }
     ensures { result ≡ (ltb x n && not (marked births.now x || holds ear.now x)) }
 {
-    if n <= x {
-        return false;
-    }
-    unborn(births, ear, marks, x)
+    x < n && unborn(births, ear, marks, x)
 }
 
 // Link i leads from v to a switch below n that is still unborn after the ear.
+#[tactic(auto, unfolding(crate::specs::Neighbours::leads_to, mondschein::specs::Network::former, mondschein::specs::Network::latter))]
 fn leads_to_unborn(
     n: u16,
     links: &[u16],
@@ -64,13 +50,8 @@ fn leads_to_unborn(
 {
     let x = links[2 * i];
     let y = links[2 * i + 1];
-    if x == v {
-        return unborn_below(n, births, ear, marks, y);
-    }
-    if y == v {
-        return unborn_below(n, births, ear, marks, x);
-    }
-    false
+    (x == v && unborn_below(n, births, ear, marks, y))
+        || (y == v && unborn_below(n, births, ear, marks, x))
 }
 
 // A neighbour of v below n is still unborn after the ear: one scan of the links.
@@ -78,15 +59,7 @@ fn unborn_by_scan(n: u16, links: &[u16], births: &[u16], ear: &[u16], marks: &[u
     requires { MarksOf ear.now (length ear.now) marks.now }
     ensures { result ≡ any (λ x. joined (table_of links.now) v x && not (marked births.now x || holds ear.now x)) n }
 {
-    let m = links.len() / 2;
-    let mut i = 0;
-    while i < m {
-        if leads_to_unborn(n, links, births, ear, marks, v, i) {
-            return true;
-        }
-        i += 1;
-    }
-    false
+    (0..links.len() / 2).any(|i| leads_to_unborn(n, links, births, ear, marks, v, i))
 }
 
 // A neighbour of v below n is still unborn after the ear: along the half-links of v.
@@ -104,6 +77,7 @@ fn unborn_along(
 {
     let m = links.len() / 2;
     let mut h = index[v as usize] as usize;
+    // The turns follow a chain of the index, so no count names them.
     while h < 2 * m {
         if unborn_below(n, births, ear, marks, network::far_end(links, h)) {
             return true;
@@ -126,10 +100,7 @@ fn unborn_neighbour(
     requires { Indexed (table_of links.now) index.now × MarksOf ear.now (length ear.now) marks.now }
     ensures { result ≡ any (λ x. joined (table_of links.now) v x && not (marked births.now x || holds ear.now x)) n }
 {
-    if !network::is_index(index) {
-        return unborn_by_scan(n, links, births, ear, marks, v);
-    }
-    if 1024 <= v {
+    if !network::is_index(index) || 1024 <= v {
         return unborn_by_scan(n, links, births, ear, marks, v);
     }
     unborn_along(n, links, index, births, ear, marks, v)
@@ -145,21 +116,13 @@ fn first_cut_off_by(
     ear: &[u16],
     marks: &[u8],
     new: &[u16],
-) -> usize
+) -> Option<usize>
     requires { Indexed (table_of links.now) index.now × MarksOf ear.now (length ear.now) marks.now }
-    ensures { result ≡ low (λ k. not (eqb (at new.now k) last) && not (any (λ x. joined (table_of links.now) (at new.now k) x && not (marked births.now x || holds ear.now x)) n)) (length new.now) }
+    ensures lowest { unwrap_or result (length new.now) ≡ low (λ k. not (eqb (at new.now k) last) && not (any (λ x. joined (table_of links.now) (at new.now k) x && not (marked births.now x || holds ear.now x)) n)) (length new.now) }
+    ensures within { IfSome result (λ k. k < length new.now) }
 {
-    let mut k = 0;
-    while k < new.len() {
-        let v = new[k];
-        if v != last {
-            if !unborn_neighbour(n, links, index, births, ear, marks, v) {
-                return k;
-            }
-        }
-        k += 1;
-    }
-    k
+    new.iter().position(|v| *v != last
+        && !unborn_neighbour(n, links, index, births, ear, marks, *v))
 }
 
 // 16: the first new switch, other than last, that keeps no unborn neighbour. A short ear is searched, a longer one marked.
@@ -171,9 +134,10 @@ pub fn first_cut_off(
     births: &[u16],
     ear: &[u16],
     new: &[u16],
-) -> usize
+) -> Option<usize>
     requires { Indexed (table_of links.now) index.now }
-    ensures { result ≡ low (λ k. not (eqb (at new.now k) last) && not (any (λ x. joined (table_of links.now) (at new.now k) x && not (marked births.now x || holds ear.now x)) n)) (length new.now) }
+    ensures lowest { unwrap_or result (length new.now) ≡ low (λ k. not (eqb (at new.now k) last) && not (any (λ x. joined (table_of links.now) (at new.now k) x && not (marked births.now x || holds ear.now x)) n)) (length new.now) }
+    ensures within { IfSome result (λ k. k < length new.now) }
 {
     if ear.len() < 16 {
         return first_cut_off_by(n, last, links, index, births, ear, &[0u8; 0], new);

@@ -1,35 +1,20 @@
-use mathlib.Core.Path.{refl, sym, ap, ◌∙◌}
-use native.Mathlib.Omega.{arith}
+use Rattle.std.proofs.Common.{refl, sym, ap, ◌∙◌, arith}
 use Rattle.mondschein.specs.Network.{size}
 use Rattle.network.specs.Load.{table_of}
 use Rattle.network.proofs.Indexing.{follow_begin, follow_miss, follow_more}
-use Rattle.unborn.proofs.Neighbours.{along_hit, along_end}
-use Rattle.unborn.proofs.unborn_along.Invariants.{free, sought}
+use Rattle.unborn.proofs.Neighbours.{free, sought, along_hit, along_end}
 use Rattle.unborn.proofs.unborn_along.Goals as goal
-
-pub bounds-index-v : goal.bounds-index-v
-bounds-index-v c =
-    omega (arith, c.requires.0.places, c.requires.1)
 
 pub loop-h-init : goal.loop-h-init
 unfolding size
 loop-h-init c =
     (follow_begin (table_of c.args.links.now) c.args.index.now c.requires.0 c.args.v c.requires.1 (sought c.args.n c.args.births.now c.args.ear.now), refl)
 
-pub far_end-requires : goal.far_end-requires
-unfolding size
-far_end-requires c = omega (arith, c.loop-h-test.true, c.loop-h.invariant.1)
-
 pub returns-then-unborn_below : goal.returns-then-unborn_below
 returns-then-unborn_below c =
     along_hit (table_of c.args.links.now) (free c.args.births.now c.args.ear.now) c.args.v c.args.n c.loop-h.h c.loop-h.invariant.0
     (omega (arith, c.loop-h-test.true, c.loop-h.invariant.1))
     (ap (sought c.args.n c.args.births.now c.args.ear.now) (sym c.far_end.ensures) ∙ sym c.unborn_below.ensures ∙ c.if-unborn_below.true)
-
-pub bounds-index-h : goal.bounds-index-h
-unfolding size
-bounds-index-h c =
-    omega (arith, c.loop-h-test.true, c.loop-h.invariant.1, c.requires.0.places, c.requires.0.fits)
 
 pub loop-h-smaller : goal.loop-h-smaller
 loop-h-smaller c =

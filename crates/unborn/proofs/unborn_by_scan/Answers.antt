@@ -1,20 +1,13 @@
-use mathlib.Core.Path.{sym, ◌∙◌}
-use borrow.Author.Rules.{rules}
+use Rattle.std.proofs.Common.{sym, ◌∙◌, rules, tests}
 use Rattle.mondschein.specs.Network.{size}
-use Rattle.mondschein.proofs.Search.{rest_begin, rest_miss, true_any, any_end}
-use Rattle.unborn.proofs.Neighbours.{scan}
+use Rattle.network.specs.Load.{table_of}
+use Rattle.network.proofs.Tables.{any_by_range}
+use Rattle.unborn.specs.Neighbours.{leads_to}
+use Rattle.unborn.proofs.Neighbours.{sought, scan}
 use Rattle.unborn.proofs.unborn_by_scan.Goals as goal
-
-pub loop-i-init : goal.loop-i-init
-loop-i-init c = (search rules, rest_begin _ _)
-
-pub returns-then-leads_to_unborn : goal.returns-then-leads_to_unborn
-unfolding size
-returns-then-leads_to_unborn c = sym (scan _ _ _ _ ∙ true_any _ _ _ c.loop-i-test.true (sym c.leads_to_unborn.ensures ∙ c.if-leads_to_unborn.true))
-
-pub loop-i-preserved : goal.loop-i-preserved
-loop-i-preserved c = (search rules, c.loop-i.invariant.1 ∙ rest_miss _ _ _ c.loop-i-test.true (sym c.leads_to_unborn.ensures ∙ c.if-leads_to_unborn.false))
 
 pub returns : goal.returns
 unfolding size
-returns c = sym (scan _ _ _ _ ∙ any_end _ _ _ c.loop-i.invariant.1 c.loop-i-test.false)
+returns c =
+    any_by_range (leads_to (table_of c.args.links.now) (sought c.args.n c.args.births.now c.args.ear.now) c.args.v) _ _ _ _ c.any.ensures.ran (λ x b q h. search (rules, tests))
+    ∙ sym (scan _ _ _ _)
