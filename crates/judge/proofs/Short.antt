@@ -1,14 +1,7 @@
 -- A later ear of two numbers: what the code asks of it says that it is accepted.
 -- The law of the checks is in Rattle.mondschein.proofs.Short.
-use mathlib.Core.Path.{◌≡◌, refl, sym, ap, ◌∙◌, subst}
-use mathlib.Core.Logic.{◌≢◌, ⊎_elim}
-use mathlib.Core.Bool.{Bool, true, false}
-use mathlib.Core.List.{List, [], ◌∷◌}
-use Prim.Native.Nat.{ℕ, ◌/◌, ◌≤◌, ◌<◌}
-use native.Mathlib.Omega.{arith}
-use lib.Dec.{ltb}
-use lib.ListN.{length}
-use borrow.Author.Tests.{lt-ltb, le-ltb}
+use Rattle.std.proofs.Common.{◌≡◌, ◌≢◌, ℕ, ◌/◌, ◌≤◌, ◌<◌, Bool, true, false, eqb, ltb, List, [], ◌∷◌, length, Option, Some, None, unwrap_or, IfSome, MatchOption, refl, sym, ap, ◌∙◌, subst, ⊎_elim, arith, lt-ltb, le-ltb, eqb-true}
+use Rattle.std.specs.Bool.{then_some}
 use Rattle.mondschein.specs.Network.{any, at, size, former, latter, joins, joined, link_of}
 use Rattle.mondschein.specs.Judge.{given, verdict}
 use Rattle.mondschein.proofs.Logic.{less?}
@@ -43,3 +36,18 @@ module _ (n : ℕ) (links births used e : List ℕ) (two : length e ≡ 2) (a-be
     where
       is_marked : (x : ℕ) → x ≢ 0 → ltb 0 x ≡ true
       is_marked x d = ⊎_elim (λ (h : 0 < x). lt-ltb 0 x h) (λ (h : x ≤ 0). absurd (d (omega arith))) (less? 0 x)
+
+  -- the lowest link between the two, where it is not used
+  pub short_found : {Q : ℕ → Bool → Type 0} {is_first : Bool} → is_first ≡ false → (r s : Option ℕ) → unwrap_or r (length links / 2) ≡ link_of (table_of links) (at e 0) (at e 1)
+      → IfSome r (λ l. l < length links / 2) → MatchOption r (s ≡ None) (λ l. (b : Bool) × Q l b × (s ≡ then_some b l)) → ((l : ℕ) (b : Bool) → Q l b → b ≡ eqb (at used l) 0)
+      → ShortLink n links births used is_first e (unwrap_or s (length links / 2)) × IfSome s (λ l. l < length links / 2)
+  short_found {Q} {is_first} f r s q m h t = go r q m h
+    where
+      go : (r : Option ℕ) → unwrap_or r (length links / 2) ≡ link_of (table_of links) (at e 0) (at e 1) → IfSome r (λ l. l < length links / 2)
+          → MatchOption r (s ≡ None) (λ l. (b : Bool) × Q l b × (s ≡ then_some b l)) → ShortLink n links births used is_first e (unwrap_or s (length links / 2)) × IfSome s (λ l. l < length links / 2)
+      go None q m h = rw h (λ l. absurd (omega (arith, l)), tt)
+      go (Some l) q m (b, p, k) = told b k (t l b p)
+        where
+          told : (b : Bool) → s ≡ then_some b l → b ≡ eqb (at used l) 0 → ShortLink n links births used is_first e (unwrap_or s (length links / 2)) × IfSome s (λ l. l < length links / 2)
+          told true k u = let z : at used l ≡ 0 = eqb-true _ _ (sym u) in rw k (short_link f q m (omega arith), m)
+          told false k u = rw k (λ n. absurd (omega (arith, n)), tt)

@@ -10,7 +10,7 @@ use Rattle.mondschein.proofs.Passed.{new_between, between_new}
 abbrev pub part : List ℕ → List ℕ
 part e = take (length e - 1 - 1) (drop 1 e)
 
-part_length : (e : List ℕ) → length (part e) ≡ length e - 1 - 1
+pub part_length : (e : List ℕ) → length (part e) ≡ length e - 1 - 1
 part_length e = omega (arith, length-take (length e - 1 - 1) (drop 1 e), length-drop 1 e)
 
 part_at : (e : List ℕ) (k : ℕ) → k < length e - 1 - 1 → at (part e) k ≡ at e (suc k)
