@@ -1,15 +1,9 @@
 -- Laws of the order in the code's terms: the place of an ear by one search for both of its ends, and the order after one more ear,
 -- by that place.
-use mathlib.Core.Path.{◌≡◌, refl, sym, ap, ap₂, ◌∙◌}
-use mathlib.Core.Logic.{⊎_elim, ◌≢◌}
-use mathlib.Core.Bool.{Bool, true, false, not, ◌&&◌, cond}
-use mathlib.Core.List.{List, ◌++◌, reverse, append_assoc}
-use Prim.Native.Nat.{ℕ, suc, pred, min, ◌+◌, ◌-◌, ◌≤◌, ◌<◌}
-use native.Mathlib.Omega.{arith}
-use lib.Dec.{eqb, ltb}
-use lib.ListN.{length, take, drop, length-append, length-take, length-drop, length-reverse, drop_of_length-le, take-append-drop}
-use lib.Seq.{take-take, take-add, take-append-le, drop_at, ext_get_or}
-use borrow.Author.Tests.{lt-ltb, le-ltb, le-leb, lt-leb, eq-eqb, ne_eqb, ltb-true, ltb-false}
+use Rattle.std.proofs.Common.{◌≡◌, refl, sym, ap, ap₂, ◌∙◌, ⊎_elim, ◌≢◌, Bool, true, false, not, ◌&&◌, cond, List, ◌++◌, reverse, append_assoc, ℕ, suc, pred, min, ◌+◌, ◌-◌, ◌≤◌, ◌<◌, arith, eqb, ltb, length, take, drop, length-append, length-take, length-drop, drop_of_length-le, take-append-drop, take-take, take-add, drop_at, ext_get_or, lt-ltb, le-ltb, le-leb, eq-eqb, ne_eqb, ltb-true, ltb-false}
+use Rattle.std.proofs.Math.ListN.{length-reverse}
+use Rattle.std.proofs.Math.Seq.{take-append-le}
+use borrow.Author.Tests.{lt-leb}
 use Rattle.mondschein.specs.Network.{at}
 use Rattle.mondschein.specs.Order.{position, upward, from_a, between, extend}
 use Rattle.mondschein.proofs.Logic.{less?}
@@ -19,7 +13,7 @@ use Rattle.order.specs.Placed.{placed, placed_count, place_in}
 use Rattle.order.specs.declared.Place.{Place}
 use Rattle.rows.proofs.Prefixes.{least_take}
 use Rattle.rows.proofs.Rows.{position_end, position_hit, position_found}
-use Rattle.order.proofs.Writing.{gap}
+use Rattle.std.specs.List.{copy_within}
 
 -- one search for both ends of an ear finds A
 module _ (o e : List ℕ) {k : ℕ} (found : k ≡ min (position o (at e 0)) (position o (at e (pred (length e))))) where
@@ -95,31 +89,40 @@ drop_take m n l h k =
     ∙ ap (drop m) (take-add m (n - m) l)
     ∙ drop_at (take m l) (take (n - m) (drop m l)) m (omega (arith, length-take m l))
 
--- new numbers written into a gap of their count
-filled : {g w : List ℕ} (o new : List ℕ) (i count c n : ℕ) → i ≤ count → count + c ≤ length o → n ≡ c
-    → g ≡ gap o i count c
+-- new numbers written into a gap of their count: what stood from there on was moved up by it
+filled : {g w : List ℕ} (o new : List ℕ) (i count n : ℕ) → i ≤ count → count + n ≤ length o
+    → g ≡ copy_within o i count (i + n)
     → w ≡ take i g ++ (new ++ drop (i + n) g)
-    → w ≡ put (take count o) new i ++ drop (count + c) o
-filled {g} {w} o new i count c n h room e q r =
+    → w ≡ put (take count o) new i ++ drop (count + n) o
+filled {g} {w} o new i count n h room q r =
     r
     ∙ ap₂ (λ (x y : List ℕ). x ++ (new ++ y)) below above
-    ∙ sym (append_assoc (take i (take count o)) (new ++ drop i (take count o)) (drop (count + c) o) ∙ ap (λ (l : List ℕ). take i (take count o) ++ l) (append_assoc new (drop i (take count o)) (drop (count + c) o)))
+    ∙ sym (append_assoc (take i (take count o)) (new ++ drop i (take count o)) (drop (count + n) o) ∙ ap (λ (l : List ℕ). take i (take count o) ++ l) (append_assoc new (drop i (take count o)) (drop (count + n) o)))
   where
-    long : length (take (i + c) o) ≡ i + c
-    long = omega (arith, length-take (i + c) o)
+    moved : List ℕ
+    moved = take (count - i) (drop i o) ++ drop (count + n) o
+
+    opened : g ≡ take (i + n) o ++ moved
+    opened =
+        q
+        ∙ append_assoc (take (i + n) o) (take (count - i) (drop i o)) (drop (i + n + (count - i)) o)
+        ∙ ap (λ (k : ℕ). take (i + n) o ++ (take (count - i) (drop i o) ++ drop k o)) (let z : i + n + (count - i) ≡ count + n = omega arith in z)
+
+    long : length (take (i + n) o) ≡ i + n
+    long = omega (arith, length-take (i + n) o)
 
     below : take i g ≡ take i (take count o)
     below =
-        ap (take i) q
-        ∙ take-append-le i (take (i + c) o) (take (count - i) (drop i o) ++ drop (count + c) o) (omega (arith, long))
-        ∙ take-take i (i + c) o (omega arith)
+        ap (take i) opened
+        ∙ take-append-le i (take (i + n) o) moved (omega (arith, long))
+        ∙ take-take i (i + n) o (omega arith)
         ∙ sym (take-take i count o h)
 
-    above : drop (i + n) g ≡ drop i (take count o) ++ drop (count + c) o
+    above : drop (i + n) g ≡ drop i (take count o) ++ drop (count + n) o
     above =
-        ap (drop (i + n)) q
-        ∙ drop_at (take (i + c) o) (take (count - i) (drop i o) ++ drop (count + c) o) (i + n) (omega (arith, long))
-        ∙ ap (λ (l : List ℕ). l ++ drop (count + c) o) (sym (drop_take i count o h (omega arith)))
+        ap (drop (i + n)) opened
+        ∙ drop_at (take (i + n) o) moved (i + n) (omega (arith, long))
+        ∙ ap (λ (l : List ℕ). l ++ drop (count + n) o) (sym (drop_take i count o h (omega arith)))
 
 -- the part of an ear between its ends
 abbrev inner : List ℕ → List ℕ
@@ -144,17 +147,18 @@ module _ (o e : List ℕ) where
 
 -- the new switches of a later ear, written at its place
 module _ (o e : List ℕ) (count : ℕ) (some : 1 ≤ count) (room : count + (length e - 2) ≤ length o) {place : Place} (there : place ≡ place_in (take count o) e)
-    {g w : List ℕ} (opened : g ≡ gap o place.at count (length e - 2)) where
+    {g w : List ℕ} (opened : g ≡ copy_within o place.at count (place.at + length (inner e))) where
   inserted : (new : List ℕ) → new ≡ between (from_a (take count o) e) → w ≡ take place.at g ++ (new ++ drop (place.at + length (inner e)) g)
       → w ≡ extend (take count o) e ++ drop (count + (length e - 2)) o
   inserted new q t =
       let long : length (take count o) ≡ count = omega (arith, length-take count o) in
       let i : place.at ≡ min (suc (position (take count o) (at (from_a (take count o) e) 0))) (length (take count o)) = ap (λ (p : Place). p.at) there in
-      filled o new place.at count (length e - 2) (length (inner e)) (omega arith) room (inner_length e) opened t
-      ∙ ap (λ (l : List ℕ). l ++ drop (count + (length e - 2)) o)
+      filled o new place.at count (length (inner e)) (omega arith) (omega (arith, inner_length e)) opened t
+      ∙ ap₂ (λ (l : List ℕ) (n : ℕ). l ++ drop (count + n) o)
       (put_within {r = place.at} (take count o) new _ i
       ∙ ap (λ (x : List ℕ). put (take count o) x (suc (position (take count o) (at (from_a (take count o) e) 0)))) q
       ∙ sym (extend_is (take count o) e (omega arith)))
+      (inner_length e)
 
   pub inserted_up : place.upward ≡ true → w ≡ take place.at g ++ (inner e ++ drop (place.at + length (inner e)) g) → w ≡ extend (take count o) e ++ drop (count + (length e - 2)) o
   inserted_up u t = inserted (inner e) (between_up (take count o) e (sym (ap (λ (p : Place). p.upward) there) ∙ u)) t
@@ -181,8 +185,8 @@ unfolding placed placed_count
 without_room l row old h = rw (lt-leb (length l) (length row) h) (refl, refl)
 
 -- a first ear as written
-pub first_placed : {w : List ℕ} (o e : List ℕ) → length e ≤ length o → w ≡ e ++ drop (0 + length e) o → (length e ≡ placed_count e o 0) × (w ≡ placed e o)
-first_placed o e l q = with_room e o 0 refl l (q ∙ ap (λ (k : ℕ). e ++ drop k o) (let z : 0 + length e ≡ length e = omega arith in z))
+pub first_placed : {w : List ℕ} (o e : List ℕ) → length e ≤ length o → w ≡ e ++ drop (length e) o → (length e ≡ placed_count e o 0) × (w ≡ placed e o)
+first_placed o e l q = with_room e o 0 refl l q
 
 -- one more ear, by the count r of the order
 module _ {r : ℕ} (o e : List ℕ) (b : ℕ) (h : r ≡ min b (length o)) where

@@ -1,14 +1,7 @@
 -- Laws of a list placed at the start of an array: the array keeps its length, and a list that has room is counted and read back whole.
 -- Cited where the order is held to the order of the accepted ears.
-use mathlib.Core.Path.{◌≡◌, refl}
-use mathlib.Core.Bool.{Bool, true, false, cond}
-use mathlib.Core.List.{List, ◌++◌}
-use Prim.Native.Nat.{ℕ, ◌≤◌}
-use native.Mathlib.Omega.{arith}
-use lib.Dec.{leb}
-use lib.ListN.{length, take, drop, length-append, length-drop}
-use lib.Seq.{take-append_seam}
-use borrow.Author.Tests.{leb-true, le-leb}
+use Rattle.std.proofs.Common.{◌≡◌, refl, Bool, true, false, cond, List, ◌++◌, ℕ, ◌≤◌, arith, leb, length, take, drop, length-append, length-drop, leb-true, le-leb}
+use Rattle.std.proofs.Math.Seq.{take-append_seam}
 use Rattle.order.specs.Placed.{placed, placed_count}
 
 pub placed_length : (l row : List ℕ) → length (placed l row) ≡ length row

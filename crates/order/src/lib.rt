@@ -14,55 +14,23 @@ pub struct Place {
     pub upward: bool,
 }
 
-// There is a number at index k, and it is not x.
-fn differs_at(list: &[u16], k: usize, x: u16) -> bool
-    ensures { result ≡ (ltb k (length list.now) && not (eqb (at list.now k) x)) }
-{
-    if list.len() <= k {
-        return false;
-    }
-    list[k] != x
-}
-
 // The place of a later ear in the order, by one search for both of its ends.
 pub fn place_of(order: &[u16], born: u16, ear: &[u16]) -> Place
     requires { 1 ≤ length ear.now }
     ensures { result ≡ place_in (take born order.now) ear.now }
 {
-    let len = ear.len();
-    let count = rows::least(born as usize, order.len());
+    let count = (born as usize).min(order.len());
     let list = &order[..count];
-    let last = ear[len - 1];
-    let k = rows::position_of_either(list, ear[0], last);
-    let at = rows::least(k + 1, count);
-    let upward = differs_at(list, k, last);
-    Place {
-        at: at,
-        upward: upward,
-    }
-}
-
-// Moves the numbers from index at up to count by c places, the last one first.
-fn open_gap(order: &mut [u16], at: usize, count: usize, c: usize)
-    requires { (at ≤ count) × (count + c ≤ length order.old) }
-    ensures { order.new ≡ take (at + c) order.old ++ (take (count - at) (drop at order.old) ++ drop (count + c) order.old) }
-{
-    let mut k = count;
-    while at < k {
-        k -= 1;
-        order[k + c] = order[k];
-    }
-}
-
-// Writes the part from index at on.
-fn write_at(order: &mut [u16], at: usize, part: &[u16])
-    requires { at + length part.now ≤ length order.old }
-    ensures { order.new ≡ take at order.old ++ (part.now ++ drop (at + length part.now) order.old) }
-{
-    let mut k = 0;
-    while k < part.len() {
-        order[at + k] = part[k];
-        k += 1;
+    let last = ear[ear.len() - 1];
+    match rows::position_of_either(list, ear[0], last) {
+        Some(k) => Place {
+            at: k + 1,
+            upward: list[k] != last,
+        },
+        None => Place {
+            at: count,
+            upward: false,
+        },
     }
 }
 
@@ -72,10 +40,8 @@ fn write_reversed(order: &mut [u16], at: usize, part: &[u16])
     ensures { order.new ≡ take at order.old ++ (reverse part.now ++ drop (at + length part.now) order.old) }
 {
     let len = part.len();
-    let mut k = 0;
-    while k < len {
+    for k in 0..len {
         order[at + k] = part[len - 1 - k];
-        k += 1;
     }
 }
 
@@ -88,7 +54,7 @@ pub fn begin(order: &mut [u16], ear: &[u16]) -> u16
     if order.len() < len {
         return 0;
     }
-    write_at(order, 0, ear);
+    order[..len].copy_from_slice(ear);
     len as u16
 }
 
@@ -98,20 +64,19 @@ pub fn insert(order: &mut [u16], born: u16, ear: &[u16], place: Place) -> u16
     ensures { (result ≡ placed_count (extend (take born order.old) ear.now) order.old born) × (order.new ≡ placed (extend (take born order.old) ear.now) order.old) }
 {
     let len = ear.len();
-    let room = order.len();
-    let count = rows::least(born as usize, room);
+    let count = (born as usize).min(order.len());
     let grown = count + (len - 2);
-    if room < grown {
+    if order.len() < grown {
         return born;
     }
     let at = place.at;
     let part = &ear[1..len - 1];
-    open_gap(order, at, count, len - 2);
+    order.copy_within(at..count, at + part.len());
     if place.upward {
-        write_at(order, at, part);
-        return grown as u16;
+        order[at..at + part.len()].copy_from_slice(part);
+    } else {
+        write_reversed(order, at, part);
     }
-    write_reversed(order, at, part);
     grown as u16
 }
 
@@ -120,5 +85,5 @@ pub fn same_count(order: &[u16], born: u16) -> u16
     requires { length order.now ≤ 1024 }
     ensures { result ≡ min born (length order.now) }
 {
-    rows::least(born as usize, order.len()) as u16
+    (born as usize).min(order.len()) as u16
 }

@@ -1,16 +1,6 @@
 -- Laws of `assigned`: its length, what stands at an index that no key, one key or some key names, or that is its own key, and one
 -- number more in the code's terms, where the index is `k + 1` for `suc k`. A key past the end of the row changes nothing.
-use mathlib.Core.Path.{◌≡◌, refl, sym, ap, ap₂, ◌∙◌}
-use mathlib.Core.Logic.{⊎_elim, ◌≢◌}
-use mathlib.Core.Bool.{Bool, true, false, ◌||◌, cond}
-use mathlib.Core.List.{List}
-use Prim.Native.Nat.{ℕ, zero, suc, ◌+◌, ◌<◌}
-use native.Mathlib.Omega.{arith}
-use native.Mathlib.Numerals.{add-one}
-use lib.Dec.{eqb}
-use lib.ListN.{length, set, length-set}
-use lib.Seq.{get_or-set_same, get_or-set_other}
-use borrow.Author.Tests.{eq-eqb, ne_eqb}
+use Rattle.std.proofs.Common.{◌≡◌, refl, sym, ap, ap₂, ◌∙◌, ⊎_elim, ◌≢◌, Bool, true, false, ◌||◌, cond, List, ℕ, zero, suc, ◌+◌, ◌<◌, arith, add-one, eqb, length, set, length-set, get_or-set_same, get_or-set_other, eq-eqb, ne_eqb}
 use Rattle.mondschein.specs.Network.{low, any, at}
 use Rattle.mondschein.proofs.Logic.{same?}
 use Rattle.mondschein.proofs.Search.{any_suc}

@@ -1,12 +1,6 @@
 -- The first k numbers of a list, or all of it where it has fewer: the part of a slice that `least` bounds.
 -- A caller need not say that the slice is long enough.
-use mathlib.Core.Path.{◌≡◌, sym, ap, ◌∙◌}
-use mathlib.Core.Logic.{⊎_elim}
-use mathlib.Core.List.{List}
-use Prim.Native.Nat.{ℕ, min}
-use native.Mathlib.Omega.{arith}
-use lib.ListN.{length, take, length-take}
-use lib.Seq.{take_all}
+use Rattle.std.proofs.Common.{◌≡◌, sym, ap, ◌∙◌, ⊎_elim, List, ℕ, min, arith, length, take, length-take, take_all}
 use Rattle.mondschein.proofs.Logic.{less?}
 
 -- the first k numbers of a list, or all of it

@@ -1,19 +1,11 @@
 -- Laws of rows in the code's terms: what an entry's comparison says of a mark, one mark more, a row filled with one number, and
 -- positions. What `least` bounds is in Prefixes.antt.
-use mathlib.Core.Path.{◌≡◌, sym, ap, ap₂, ◌∙◌, subst}
-use mathlib.Core.Logic.{◌≢◌, ⊎_elim}
-use mathlib.Core.Bool.{Bool, true, false, ◌||◌, cond, or-true, or-false}
-use mathlib.Core.List.{List, ◌++◌, append-nil}
-use Prim.Native.Nat.{ℕ, ◌+◌, ◌≤◌, ◌<◌}
-use native.Mathlib.Omega.{arith}
-use lib.Dec.{eqb, ltb}
-use lib.ListN.{length, drop, replicate, drop_of_length-le}
-use borrow.Author.Tests.{lt-ltb, le-ltb, eq-eqb, eqb-true}
+use Rattle.std.proofs.Common.{◌≡◌, sym, ap, ap₂, ◌∙◌, subst, ◌≢◌, ⊎_elim, Bool, true, false, ◌||◌, cond, List, ◌++◌, append-nil, ℕ, ◌+◌, ◌≤◌, ◌<◌, arith, eqb, ltb, length, drop, replicate, drop_of_length-le, lt-ltb, le-ltb, eq-eqb, eqb-true, ◌⊎◌, min, Option, None, Some, MatchOption, EachIndex, unwrap_or, ne_eqb}
+use mathlib.Core.Bool.{or-true, or-false}
 use Rattle.mondschein.specs.Network.{at}
 use Rattle.mondschein.specs.Order.{position}
 use Rattle.mondschein.proofs.Logic.{less?, clash}
 use Rattle.mondschein.proofs.Search.{IsLow, low_is, low_none, low_stop}
-use Rattle.std.proofs.Common.{Option, None, Some, MatchOption, EachIndex, unwrap_or, ne_eqb}
 
 -- the entry r of a table of marks
 pub marked_hit : {r mark : ℕ} → r ≡ mark → 0 < r → ltb 0 mark ≡ true
@@ -60,3 +52,22 @@ module _ (l : List ℕ) (x : ℕ) where
   unfolding position
   position_is None h = sym (low_none (λ j. eqb (at l j) x) (length l) (λ j m. ne_eqb _ _ (h j m)))
   position_is (Some i) h = sym (low_stop (λ j. eqb (at l j) x) (length l) i (λ j m. ne_eqb _ _ (h.2 j m)) h.0 (eq-eqb _ _ h.1))
+
+-- the lesser of two positions, of what one search for both answers
+pub position_is_either : (l : List ℕ) (x y : ℕ) (r : Option ℕ)
+    → MatchOption r (EachIndex l (λ k. (at l k ≢ x) × (at l k ≢ y))) (λ i. (i < length l) × ((at l i ≡ x) ⊎ (at l i ≡ y)) × ((k : ℕ) → k < i → (at l k ≢ x) × (at l k ≢ y)))
+    → unwrap_or r (length l) ≡ min (position l x) (position l y)
+position_is_either l x y None h =
+    omega (
+      arith,
+      position_is l x None (λ k m. (h k m).0),
+      position_is l y None (λ k m. (h k m).1),
+    )
+position_is_either l x y (Some i) h =
+    ⊎_elim
+    (λ e. omega (arith, position_is l x (Some i) (h.0, e, λ k m. (h.2 k m).0), later y (λ k m. (h.2 k m).1)))
+    (λ e. omega (arith, position_is l y (Some i) (h.0, e, λ k m. (h.2 k m).1), later x (λ k m. (h.2 k m).0)))
+    h.1
+  where
+    later : (z : ℕ) → ((k : ℕ) → k < i → at l k ≢ z) → i ≤ position l z
+    later z d = ⊎_elim (λ (m : position l z < i). absurd (d _ m (position_found l z (omega (arith, h.0))))) (λ (m : i ≤ position l z). m) (less? (position l z) i)

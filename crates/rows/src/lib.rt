@@ -2,7 +2,7 @@
 // A number past the end of a row reads as 0, and a store past it changes nothing.
 #![tactic(auto)]
 
-ghost use Rattle.std.specs.Prelude.{◌≡◌, min, length, set, replicate, slice_index_or, take};
+ghost use Rattle.std.specs.Prelude.{◌≡◌, ◌<◌, min, length, set, replicate, slice_index_or, take, unwrap_or, IfSome};
 ghost use Rattle.mondschein.specs.Network.{at};
 ghost use Rattle.mondschein.specs.Order.{position};
 
@@ -58,16 +58,12 @@ pub fn position_of(list: &[u16], x: u16) -> usize
     list.iter().position(|y| *y == x).unwrap_or(list.len())
 }
 
-// The index of the first number of the list that is a or b, or its length.
-pub fn position_of_either(list: &[u16], a: u16, b: u16) -> usize
-    ensures { result ≡ min (position list.now a) (position list.now b) }
+// The index of the first number of the list that is a or b.
+pub fn position_of_either(list: &[u16], a: u16, b: u16) -> Option<usize>
+    ensures lowest { unwrap_or result (length list.now) ≡ min (position list.now a) (position list.now b) }
+    ensures within { IfSome result (λ i. i < length list.now) }
 {
-    for (k, x) in list.iter().enumerate() {
-        if *x == a || *x == b {
-            return k;
-        }
-    }
-    list.len()
+    list.iter().position(|x| *x == a || *x == b)
 }
 
 // The lesser of two numbers.
