@@ -46,19 +46,18 @@ module _ (o e : List ℕ) {k : ℕ} (found : k ≡ min (position o (at e 0)) (po
           (λ (l : length o ≤ k). rw (le-ltb k (length o) l, le-ltb _ _ h))
           (less? k (length o))
 
--- the place of an ear, by that search in the first c numbers of the order
-pub place_found : {c k i : ℕ} {u : Bool} (b : ℕ) (o e : List ℕ) → 0 < length e → c ≡ min b (length o)
-    → k ≡ min (position (take c o) (at e 0)) (position (take c o) (at e (length e - 1)))
-    → i ≡ min (k + 1) c
-    → u ≡ (ltb k (length (take c o)) && not (eqb (at (take c o) k) (at e (length e - 1))))
-    → record { at = i; upward = u } ≡ place_in (take b o) e
-place_found {c} {k} {i} {u} b o e l h s t v =
+-- the place of an ear, by that search
+pub place_found : {k i : ℕ} {u : Bool} (o e : List ℕ) → 0 < length e
+    → k ≡ min (position o (at e 0)) (position o (at e (length e - 1)))
+    → i ≡ min (k + 1) (length o)
+    → u ≡ (ltb k (length o) && not (eqb (at o k) (at e (length e - 1))))
+    → record { at = i; upward = u } ≡ place_in o e
+place_found {k} {i} {u} o e l s t v =
     let last : length e - 1 ≡ pred (length e) = omega arith in
-    let found : k ≡ min (position (take c o) (at e 0)) (position (take c o) (at e (pred (length e)))) = s ∙ ap (λ (j : ℕ). min (position (take c o) (at e 0)) (position (take c o) (at e j))) last in
+    let found : k ≡ min (position o (at e 0)) (position o (at e (pred (length e)))) = s ∙ ap (λ (j : ℕ). min (position o (at e 0)) (position o (at e j))) last in
     ap₂ (λ (x : ℕ) (y : Bool). record { at = x; upward = y })
-    (let z : i ≡ min (suc (position (take c o) (at (from_a (take c o) e) 0))) (length (take c o)) = omega (arith, found_a (take c o) e found l, length-take c o) in z)
-    (v ∙ ap (λ (j : ℕ). ltb k (length (take c o)) && not (eqb (at (take c o) k) (at e j))) last ∙ found_upward (take c o) e found)
-    ∙ ap (λ (x : List ℕ). place_in x e) (least_take b o h)
+    (let z : i ≡ min (suc (position o (at (from_a o e) 0))) (length o) = omega (arith, found_a o e found l) in z)
+    (v ∙ ap (λ (j : ℕ). ltb k (length o) && not (eqb (at o k) (at e j))) last ∙ found_upward o e found)
 
 -- the numbers between the ends, of an ear turned round
 between_reverse : (e : List ℕ) → between (reverse e) ≡ reverse (between e)

@@ -19,8 +19,7 @@ pub fn place_of(order: &[u16], born: u16, ear: &[u16]) -> Place
     requires { 1 ≤ length ear.now }
     ensures { result ≡ place_in (take born order.now) ear.now }
 {
-    let count = (born as usize).min(order.len());
-    let list = &order[..count];
+    let list = rows::prefix(order, born as usize);
     let last = ear[ear.len() - 1];
     match rows::position_of_either(list, ear[0], last) {
         Some(k) => Place {
@@ -28,7 +27,7 @@ pub fn place_of(order: &[u16], born: u16, ear: &[u16]) -> Place
             upward: list[k] != last,
         },
         None => Place {
-            at: count,
+            at: list.len(),
             upward: false,
         },
     }
