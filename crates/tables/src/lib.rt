@@ -12,19 +12,21 @@ ghost use Rattle.rows.specs.Rows.{assigned};
 ghost use Rattle.tables.specs.Tables.{used_after, longs_after, births_after, neighbours, tree1_after, tree2_after, tables_of, after_ear, TakesShort};
 
 // Marks the links between two neighbours of the ear.
+#[tactic(auto, using(rows::proofs::Assigned::assigned_more), unfolding(rows::specs::Rows::assigned, mondschein::specs::Network::size))]
 fn mark_along(links: &[u16], index: &[u16], ear: &[u16], used: &mut [u8])
     requires { Indexed (table_of links.now) index.now }
     ensures { used.new ≡ assigned used.old (λ k. link_of (table_of links.now) (at ear.now k) (at ear.now (suc k))) (λ k. 1) (pred (length ear.now)) }
 {
-    let mut k = 0;
-    while k + 1 < ear.len() {
+    let m = links.len() / 2;
+    let steps = ear.len().saturating_sub(1);
+    for k in 0..steps {
         let l = network::link_by(links, index, ear[k], ear[k + 1]);
-        rows::mark(used, l);
-        k += 1;
+        rows::mark(used, l.unwrap_or(m));
     }
 }
 
 // Marks the links of an ear, and of a first ear its closing link.
+#[tactic(auto, unfolding(crate::specs::Tables::used_after, mondschein::specs::Network::size))]
 fn mark_ear(links: &[u16], index: &[u16], initial: bool, ear: &[u16], used: &mut [u8])
     requires { (2 ≤ length ear.now) × Indexed (table_of links.now) index.now }
     ensures { used.new ≡ used_after (table_of links.now) initial ear.now used.old }
@@ -33,34 +35,34 @@ fn mark_ear(links: &[u16], index: &[u16], initial: bool, ear: &[u16], used: &mut
     if initial {
         let len = ear.len();
         let l = network::link_by(links, index, ear[len - 1], ear[0]);
-        rows::mark(used, l);
+        rows::mark(used, l.unwrap_or(links.len() / 2));
     }
 }
 
 // The new switches are born in long ear b.
+#[tactic(auto, using(rows::proofs::Assigned::assigned_more), unfolding(rows::specs::Rows::assigned, crate::specs::Tables::births_after))]
 fn set_births(new: &[u16], b: u16, births: &mut [u16])
     ensures { births.new ≡ births_after b new.now births.old }
 {
-    let mut k = 0;
-    while k < new.len() {
-        rows::store(births, new[k], b);
-        k += 1;
+    for v in new {
+        rows::store(births, *v, b);
     }
 }
 
 // Each switch between the ends of an ear gets its neighbour in the ear, the former for d = 0, the latter for d = 2.
+#[tactic(auto, using(rows::proofs::Assigned::assigned_more), unfolding(rows::specs::Rows::assigned, crate::specs::Tables::neighbours))]
 fn set_neighbours(ear: &[u16], d: usize, row: &mut [u16])
     requires { d ≤ 2 }
     ensures { row.new ≡ neighbours ear.now d row.old }
 {
-    let mut k = 0;
-    while k + 2 < ear.len() {
+    let between = ear.len().saturating_sub(2);
+    for k in 0..between {
         rows::store(row, ear[k + 1], ear[k + d]);
-        k += 1;
     }
 }
 
 // Trees 1 and 2 of a first ear: along it towards root and towards first; root for the root itself and for first in tree 2.
+#[tactic(auto, unfolding(crate::specs::Tables::tree1_after, crate::specs::Tables::tree2_after))]
 fn set_first_parents(ear: &[u16], tree1: &mut [u16], tree2: &mut [u16])
     requires { 2 ≤ length ear.now }
     ensures { (tree1.new ≡ tree1_after true [] ear.now tree1.old) × (tree2.new ≡ tree2_after true [] ear.now tree2.old) }
@@ -80,26 +82,21 @@ fn set_first_parents(ear: &[u16], tree1: &mut [u16], tree2: &mut [u16])
 fn set_later_parents(upward: bool, ear: &[u16], tree1: &mut [u16], tree2: &mut [u16])
     ensures { (tree1.new ≡ neighbours ear.now (cond upward 0 2) tree1.old) × (tree2.new ≡ neighbours ear.now (cond upward 2 0) tree2.old) }
 {
-    if upward {
-        set_neighbours(ear, 0, tree1);
-        set_neighbours(ear, 2, tree2);
-        return;
-    }
-    set_neighbours(ear, 2, tree1);
-    set_neighbours(ear, 0, tree2);
+    let (towards_a, towards_b) = if upward { (0, 2) } else { (2, 0) };
+    set_neighbours(ear, towards_a, tree1);
+    set_neighbours(ear, towards_b, tree2);
 }
 
 // The number of long ears after one more ear; it stops at the limit of N.
+#[tactic(auto, unfolding(crate::specs::Tables::longs_after))]
 fn count_long(longs: u16, ear: &[u16]) -> u16
     ensures { result ≡ longs_after longs ear.now }
 {
-    if ear.len() == 2 {
-        return longs;
+    if ear.len() == 2 || network::MAX_SWITCHES <= longs {
+        longs
+    } else {
+        longs + 1
     }
-    if network::MAX_SWITCHES <= longs {
-        return longs;
-    }
-    longs + 1
 }
 
 // A first ear: births in long ear b, trees 1 and 2, and the order, with its count.
@@ -166,20 +163,14 @@ pub fn accept(
     ensures { tables_of used.new result.longs births.new result.born order.new tree1.new tree2.new ≡ after_ear (table_of links.now) ear.now (tables_of used.old longs births.old born order.old tree1.old tree2.old) }
 {
     let initial = born == 0;
-    let counted = count_long(longs, ear);
+    let longs = count_long(longs, ear);
     mark_ear(links, index, initial, ear, used);
-    if initial {
-        let begun = accept_first(counted, ear, births, order, tree1, tree2);
-        return Counts {
-            longs: counted,
-            born: begun,
-        };
-    }
-    let grown = accept_later(counted, born, ear, births, order, tree1, tree2);
-    Counts {
-        longs: counted,
-        born: grown,
-    }
+    let born = if initial {
+        accept_first(longs, ear, births, order, tree1, tree2)
+    } else {
+        accept_later(longs, born, ear, births, order, tree1, tree2)
+    };
+    Counts { longs, born }
 }
 
 // Writes an accepted later ear of two numbers into the tables: its link is used. Gives the count of the order, which stays.

@@ -1,5 +1,4 @@
-use lib.ListN.{take}
-use native.Mathlib.Omega.{arith}
+use Rattle.std.proofs.Common.{take, arith}
 use Rattle.order.proofs.Insertion.{two_placed}
 use Rattle.tables.proofs.Accepting.{births_later, tree1_later, tree2_later, births_two, tree1_two, tree2_two}
 use Rattle.tables.proofs.accept_later.Goals as goal

@@ -1,7 +1,4 @@
-use mathlib.Core.Path.{ap, ◌∙◌}
-use mathlib.Core.List.{List}
-use Prim.Native.Nat.{ℕ}
-use native.Mathlib.Omega.{arith}
+use Rattle.std.proofs.Common.{ap, ◌∙◌, List, ℕ, arith}
 use Rattle.tables.specs.Tables.{tables_of}
 use Rattle.tables.proofs.Accepting.{after_short}
 use Rattle.tables.proofs.accept_short.Goals as goal
