@@ -1,15 +1,8 @@
 -- Laws of the counts of births, in the code's own terms: none counted, one birth more, and the ear that the search over them finds.
 -- A birth past 1,024 is counted nowhere, and no count up to there sees it.
-use mathlib.Core.Path.{◌≡◌, sym, ap, ap₂, ◌∙◌}
-use mathlib.Core.Logic.{⊎_elim, ◌≢◌}
-use mathlib.Core.Bool.{Bool, cond}
-use mathlib.Core.List.{List}
-use Prim.Native.Nat.{ℕ, suc, ◌+◌, ◌≤◌, ◌<◌}
-use native.Mathlib.Numerals.{add-one}
-use native.Mathlib.Omega.{arith}
-use lib.Dec.{eqb, ltb}
-use lib.ListN.{length, set, replicate, length-set, length-replicate, get_or-replicate, get_or-eq_default}
-use borrow.Author.Tests.{lt-ltb, le-ltb, eq-eqb, ne_eqb}
+use Rattle.std.proofs.Common.{◌≡◌, sym, ap, ap₂, ◌∙◌, ⊎_elim, ◌≢◌, Bool, cond, List, ℕ, suc, ◌+◌, ◌≤◌, ◌<◌, add-one, arith, eqb, ltb, length, set, replicate, length-set, lt-ltb, le-ltb, eq-eqb, ne_eqb}
+use Rattle.std.proofs.Math.ListN.{get_or-eq_default}
+use Rattle.std.proofs.lemmas.List.{length-replicate, get_or-replicate}
 use Rattle.mondschein.specs.Network.{count, at}
 use Rattle.mondschein.proofs.Logic.{less?, same?}
 use Rattle.mondschein.proofs.Search.{count_bound, count_hit, count_skip, rest, rest_begin, rest_hit, rest_miss, rest_end}

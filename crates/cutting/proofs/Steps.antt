@@ -1,15 +1,8 @@
 -- Laws of the steps along the order, in the code's own comparisons and sums: what is passed, the zones that are written, and the cut that
 -- they are written by. The proofs of the functions cite them.
-use mathlib.Core.Path.{◌≡◌, refl, sym, ap, ap₂, ◌∙◌, subst}
-use mathlib.Core.Logic.{◌⊎◌, inl, inr, ⊎_elim, ◌≢◌}
-use mathlib.Core.List.{List}
-use Prim.Native.Nat.{ℕ, zero, suc, ◌+◌, ◌-◌, ◌≤◌, ◌<◌, min}
-use native.Mathlib.Numerals.{add-one}
-use native.Mathlib.Omega.{arith}
-use lib.Dec.{eqb, ltb}
-use lib.ListN.{length, set, replicate, length-replicate, get_or-replicate}
-use lib.Seq.{set-get_or, set_out}
-use borrow.Author.Tests.{lt-ltb, le-ltb, eq-eqb, ne_eqb, eqb-true}
+use Rattle.std.proofs.Common.{◌≡◌, refl, sym, ap, ap₂, ◌∙◌, subst, ◌⊎◌, inl, inr, ⊎_elim, ◌≢◌, List, ℕ, zero, suc, ◌+◌, ◌-◌, ◌≤◌, ◌<◌, min, add-one, arith, eqb, ltb, length, set, replicate, lt-ltb, le-ltb, eq-eqb, ne_eqb, eqb-true}
+use Rattle.std.proofs.Math.Seq.{set_out}
+use Rattle.std.proofs.lemmas.List.{length-replicate, get_or-replicate, set-get_or}
 use Rattle.mondschein.specs.Network.{low, count, at}
 use Rattle.mondschein.proofs.Logic.{less?, same?, trichotomy}
 use Rattle.mondschein.proofs.Search.{low_is, low_stop, count_bound}
@@ -21,11 +14,6 @@ use Rattle.cutting.specs.declared.Found.{Found}
 use Rattle.cutting.specs.declared.Cut.{Cut}
 use Rattle.cutting.specs.declared.Passed.{Passed}
 use Rattle.cutting.specs.Cutting.{found_in, cut_of, past_older, past_new, zone_older, zone_new, past, placed, share_of, zone_by}
-
--- one switch more, as the code counts it
-pub older_next : (p : Passed) → ◌≡◌ {A = Passed} (record { older = p.older + 1; new = p.new; old = p.old; share = p.share }) (past_older p)
-unfolding past_older
-older_next p = rw add-one
 
 module _ (p : Passed) (c : Cut) where
   pub new_first : {s u r : ℕ} → p.new ≡ 0 → s ≡ c.one - p.older → u ≡ min c.taken s → r ≡ c.one - u
@@ -45,19 +33,6 @@ older_1 older old l = rw (lt-ltb older old l)
 pub older_2 : (older old : ℕ) → old ≤ older → 2 ≡ zone_older older old
 unfolding zone_older
 older_2 older old l = rw (le-ltb older old l)
-
-module _ (new share left : ℕ) where
-  pub new_1 : new < share → 1 ≡ zone_new new share left
-  unfolding zone_new
-  new_1 l = rw (lt-ltb new share l)
-
-  pub new_3 : share ≤ new → new - share < left → 3 ≡ zone_new new share left
-  unfolding zone_new
-  new_3 l m = rw (le-ltb new share l, lt-ltb new (share + left) (omega arith))
-
-  pub new_2 : share ≤ new → left ≤ new - share → 2 ≡ zone_new new share left
-  unfolding zone_new
-  new_2 l m = rw (le-ltb new share l, le-ltb new (share + left) (omega arith))
 
 -- a switch by its birth: older, of the ear, or born later
 module _ (row : List ℕ) (switch birth : ℕ) (p : Passed) (c : Cut) where
@@ -258,10 +233,6 @@ module _ (o births : List ℕ) (c : Cut) where
 
       pub zones_length : (k : ℕ) {after : List ℕ} → after ≡ assigned row (at o) (zone_by o births c) k → length after ≡ places
       zones_length k d = ap length d ∙ assigned_length row (at o) (zone_by o births c) k ∙ ap length filled ∙ length-replicate {A = ℕ} places 3
-
-      pub zones_end : {k : ℕ} {after : List ℕ} → after ≡ assigned row (at o) (zone_by o births c) k → k ≡ length o
-          → after ≡ assigned (replicate places 3) (at o) (zone_by o births c) (length o)
-      zones_end d f = d ∙ ap₂ (λ (m : List ℕ) (k : ℕ). assigned m (at o) (zone_by o births c) k) filled f
 
 -- the cut, number by number
 pub cut_is : (births : List ℕ) (n₁ n₂ : ℕ) {found : Found} {taken' left : ℕ} → found ≡ found_in births (n₁ + n₂) → taken' ≡ n₁ + n₂ - found.before

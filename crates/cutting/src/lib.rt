@@ -2,7 +2,7 @@
 // The order is a slice that holds nothing else; births are those of all switches, by number.
 #![tactic(auto)]
 
-ghost use Rattle.std.specs.Prelude.{◌≡◌, ◌-◌, ◌≤◌, length, replicate};
+ghost use Rattle.std.specs.Prelude.{◌≡◌, ◌≤◌, length, replicate};
 ghost use Rattle.mondschein.specs.Network.{at};
 ghost use Rattle.rows.specs.Rows.{assigned};
 ghost use Rattle.zones.specs.Cut.{birth_in, zones_by};
@@ -40,26 +40,13 @@ struct Passed {
     share: usize,
 }
 
-// How much a is more than b, or 0.
-fn excess(a: usize, b: usize) -> usize
-    ensures { result ≡ a - b }
-{
-    if a < b {
-        return 0;
-    }
-    a - b
-}
-
 // Counts how many switches have each birth.
 fn count_births(births: &[u16], counts: &mut [u16])
     requires { (length births.now ≤ 1024) × (counts.old ≡ replicate 1025 0) }
     ensures { Counted births.now (length births.now) counts.new }
 {
-    let mut v = 0;
-    while v < births.len() {
-        let birth = births[v];
-        rows::store(counts, birth, rows::entry(counts, birth) + 1);
-        v += 1;
+    for birth in births {
+        rows::store(counts, *birth, rows::entry(counts, *birth) + 1);
     }
 }
 
@@ -70,9 +57,8 @@ fn find_ear(births: &[u16], total: usize) -> Found
 {
     let mut counts = [0u16; BIRTHS];
     count_births(births, &mut counts);
-    let mut i = 0;
     let mut before = 0;
-    while i < births.len() {
+    for i in 0..births.len() {
         let new = counts[i] as usize;
         if total < before + new {
             return Found {
@@ -82,12 +68,11 @@ fn find_ear(births: &[u16], total: usize) -> Found
             };
         }
         before += new;
-        i += 1;
     }
     Found {
-        ear: i as u16,
+        ear: births.len() as u16,
         before,
-        new: counts[i] as usize,
+        new: counts[births.len()] as usize,
     }
 }
 
@@ -99,71 +84,68 @@ fn find_cut(births: &[u16], n1: u16, n2: u16) -> Cut
     let one = n1 as usize;
     let total = one + (n2 as usize);
     let found = find_ear(births, total);
-    let taken = excess(total, found.before);
+    let taken = total.saturating_sub(found.before);
     Cut {
         ear: found.ear,
         one,
         taken,
-        left: excess(found.new, taken),
+        left: found.new.saturating_sub(taken),
     }
 }
 
 // One more older switch is passed.
+#[tactic(auto, unfolding(crate::specs::Cutting::past_older))]
 fn pass_older(p: Passed) -> Passed
     requires { p.older ≤ 1024 }
     ensures { result ≡ past_older p }
 {
     Passed {
         older: p.older + 1,
-        new: p.new,
-        old: p.old,
-        share: p.share,
+        ..p
     }
 }
 
 // One more switch of the ear is passed; at the first one zone 1 takes what the older ones ahead do not give it.
+#[tactic(auto, unfolding(crate::specs::Cutting::past_new))]
 fn pass_new(p: Passed, cut: Cut) -> Passed
     requires { p.new ≤ 1024 }
     ensures { result ≡ past_new p cut }
 {
     if p.new == 0 {
-        let share = rows::least(cut.taken, excess(cut.one, p.older));
+        let share = cut.taken.min(cut.one.saturating_sub(p.older));
         return Passed {
-            older: p.older,
             new: 1,
-            old: excess(cut.one, share),
+            old: cut.one - share,
             share,
+            ..p
         };
     }
     Passed {
-        older: p.older,
         new: p.new + 1,
-        old: p.old,
-        share: p.share,
+        ..p
     }
 }
 
 // The zone of an older switch, where zone 1 has so many of them.
+#[tactic(auto, unfolding(crate::specs::Cutting::zone_older))]
 fn zone_older(older: usize, old: usize) -> u16
     ensures { result ≡ zone_older older old }
 {
-    if older < old {
-        return 1;
-    }
-    2
+    if older < old { 1 } else { 2 }
 }
 
 // The zone of a switch of the ear, where zone 1 has `share` of them, and zone 3 those that are left.
+#[tactic(auto, unfolding(crate::specs::Cutting::zone_new))]
 fn zone_new(new: usize, share: usize, left: usize) -> u16
     ensures { result ≡ zone_new new share left }
 {
     if new < share {
-        return 1;
+        1
+    } else if new - share < left {
+        3
+    } else {
+        2
     }
-    if new - share < left {
-        return 3;
-    }
-    2
 }
 
 // Writes the zone of a switch that is born up to the ear, and passes it; a number that births do not hold is no switch.
@@ -173,15 +155,14 @@ fn place(out: &mut [u16], births: &[u16], switch: u16, p: Passed, cut: Cut) -> P
         × (out.new ≡ placed out.old switch (birth_in births.now switch) p cut) }
 {
     let i = switch as usize;
-    if births.len() <= i {
+    let Some(birth) = births.get(i) else {
         return p;
-    }
-    let birth = births[i];
-    if birth < cut.ear {
+    };
+    if *birth < cut.ear {
         out[i] = zone_older(p.older, p.old);
         return pass_older(p);
     }
-    if birth == cut.ear {
+    if *birth == cut.ear {
         let next = pass_new(p, cut);
         out[i] = zone_new(p.new, next.share, cut.left);
         return next;
@@ -195,17 +176,15 @@ fn write_zones(out: &mut [u16], order: &[u16], births: &[u16], cut: Cut)
     ensures { out.new ≡ assigned (replicate (length out.old) 3) (at order.now)
         (zone_by order.now births.now cut) (length order.now) }
 {
-    rows::fill(out, 3);
+    out.fill(3);
     let mut p = Passed {
         older: 0,
         new: 0,
         old: cut.one,
         share: 0,
     };
-    let mut k = 0;
-    while k < order.len() {
-        p = place(out, births, order[k], p, cut);
-        k += 1;
+    for switch in order {
+        p = place(out, births, *switch, p, cut);
     }
 }
 

@@ -1,10 +1,5 @@
-use Prim.Native.Nat.{◌≤◌, ◌-◌}
-use lib.ListN.{length}
 use Rattle.cutting.specs.Cutting.{Counted}
 use Rattle.cutting.proofs.count_births.Given as goal
 
-abbrev pub invariant-loop-v : goal.invariant-loop-v
-invariant-loop-v l = (l.v ≤ length l.births) × Counted l.births l.v l.counts
-
-abbrev pub decreases-loop-v : goal.decreases-loop-v
-decreases-loop-v l = length l.births - l.v
+abbrev pub invariant-loop-birth : goal.invariant-loop-birth
+invariant-loop-birth l = Counted l.births l.birth-index l.counts

@@ -1,20 +1,21 @@
-use borrow.Author.Rules.{rules}
-use mathlib.Core.Path.{◌≡◌, refl}
-use native.Mathlib.Omega.{arith}
-use lib.ListN.{length}
+use Rattle.std.proofs.Common.{arith, refl, length}
 use Rattle.rows.specs.Rows.{assigned}
-use Rattle.cutting.proofs.Steps.{along_begin, along_le, zones_more, zones_length, zones_end}
+use Rattle.cutting.proofs.Steps.{along_begin, along_le, zones_more}
 use Rattle.cutting.proofs.write_zones.Goals as goal
 
-pub loop-k-init : goal.loop-k-init
+pub loop-switch-init : goal.loop-switch-init
 unfolding assigned
-loop-k-init c = (search rules, along_begin c.args.order.now c.args.births.now c.args.cut, refl)
+loop-switch-init c = (along_begin c.args.order.now c.args.births.now c.args.cut, refl)
 
 pub place-p-requires : goal.place-p-requires
-place-p-requires c = omega (arith, along_le c.args.order.now c.args.births.now c.args.cut c.loop-k.invariant.1, c.loop-k.invariant.0, c.requires, zones_length c.args.order.now c.args.births.now c.args.cut (length c.args.out.now) c.fill.ensures c.loop-k.k c.loop-k.invariant.2)
+place-p-requires c =
+    let a = c.args in
+    let l = c.loop-switch in
+    omega (arith, along_le a.order.now a.births.now a.cut l.invariant.0)
 
-pub loop-k-preserved : goal.loop-k-preserved
-loop-k-preserved c = let (h, e) = zones_more c.args.order.now c.args.births.now c.args.cut (length c.args.out.now) c.fill.ensures c.loop-k.invariant.1 c.loop-k-test.true refl c.loop-k.invariant.2 c.place-p.ensures.0 c.place-p.ensures.1 in (search rules, h, e)
-
-pub returns : goal.returns
-returns c = zones_end c.args.order.now c.args.births.now c.args.cut (length c.args.out.now) c.fill.ensures c.loop-k.invariant.2 (let z : c.loop-k.k ≡ length c.args.order.now = omega arith in z)
+pub loop-switch-preserved : goal.loop-switch-preserved
+loop-switch-preserved c =
+    let a = c.args in
+    let l = c.loop-switch in
+    zones_more a.order.now a.births.now a.cut (length a.out.now) (c.fill.ensures.after (λ y e. e)) l.invariant.0 c.loop-switch-test.true refl l.invariant.1
+    c.place-p.ensures.0 c.place-p.ensures.1
