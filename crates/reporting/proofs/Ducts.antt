@@ -1,15 +1,8 @@
 -- The ducts of a tree's links, found from the last link of the table to the first: the lowest link that joins a switch and its entry stays.
 -- `Found` is the loop's invariant; begin, next and end are its turns.
-use mathlib.Core.Path.{◌≡◌, refl, sym, ap, ◌∙◌}
-use mathlib.Core.Logic.{inl, inr, ⊎_elim, ◌≢◌}
-use mathlib.Core.Bool.{Bool, true, false, ◌&&◌, cond}
-use mathlib.Core.List.{List}
-use Prim.Native.Nat.{ℕ, ◌+◌, ◌/◌, ◌≤◌, ◌<◌}
-use native.Mathlib.Omega.{arith}
-use lib.Dec.{eqb}
-use lib.ListN.{length, set, take, replicate, length-set, length-take, length-replicate, get_or-replicate, get_or-eq_default}
-use lib.Seq.{get_or-take, ext_get_or}
-use borrow.Author.Tests.{eqb-true, eq-eqb, ne_eqb}
+use Rattle.std.proofs.Common.{◌≡◌, refl, sym, ap, ◌∙◌, inl, inr, ⊎_elim, ◌≢◌, Bool, true, false, ◌&&◌, cond, List, ℕ, ◌+◌, ◌/◌, ◌≤◌, ◌<◌, arith, eqb, length, set, take, replicate, length-set, length-take, get_or-take, ext_get_or, eqb-true, eq-eqb, ne_eqb}
+use Rattle.std.proofs.Math.ListN.{get_or-eq_default}
+use Rattle.std.proofs.lemmas.List.{length-replicate, get_or-replicate}
 use Rattle.mondschein.specs.Network.{at, size, former, latter, joins, link_of}
 use Rattle.mondschein.proofs.Logic.{which, same?, clash, and_true, true_and}
 use Rattle.mondschein.proofs.Search.{rest, rest_begin, rest_hit, rest_miss, rest_end}
@@ -17,14 +10,6 @@ use Rattle.mondschein.proofs.Links.{joins_cases, cases_joins}
 use Rattle.network.specs.Load.{table_of}
 use Rattle.rows.proofs.Assigned.{at_set, assigned_length, assigned_each}
 use Rattle.reporting.specs.Reporting.{duct_between, duct_row, duct_told}
-
--- by the comparison of the entry r
-module _ (row : List ℕ) (a b d : ℕ) (l : List ℕ) {r : ℕ} (q : r ≡ at row a) where
-  pub told_hit : {l' : List ℕ} → r ≡ b → l' ≡ set l a d → l' ≡ duct_told row a b d l
-  told_hit e h = h ∙ sym (ap (λ (t : Bool). cond t (set l a d) l) (eq-eqb (at row a) b (sym q ∙ e)))
-
-  pub told_miss : r ≢ b → l ≡ duct_told row a b d l
-  told_miss n = sym (ap (λ (t : Bool). cond t (set l a d) l) (ne_eqb (at row a) b (λ e. n (q ∙ e))))
 
 pub told_length : (row : List ℕ) (a b d : ℕ) (l : List ℕ) → length (duct_told row a b d l) ≡ length l
 told_length row a b d l = go (eqb (at row a) b)

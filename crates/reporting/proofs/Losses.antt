@@ -1,15 +1,7 @@
 -- What the sums say of a proper network whose rows lead along its links: for ducts 1 to 255 as many more as switches other than the root
 -- lose exactly c walks. A duct is marked along a walk exactly where the walk is lost when the duct fails.
-use mathlib.Core.Path.{◌≡◌, refl, sym, ap, ap₂, ◌∙◌}
-use mathlib.Core.Logic.{⊎_elim, ◌≢◌}
-use mathlib.Core.Bool.{Bool, true, false, not, ◌&&◌, ◌||◌, cond}
-use mathlib.Core.List.{List, [], ◌∷◌}
-use Prim.Native.Nat.{ℕ, zero, suc, pred, ◌+◌, ◌≤◌, ◌<◌}
-use native.Mathlib.Omega.{arith}
-use lib.Dec.{eqb}
-use lib.ListN.{length, take}
-use lib.Seq.{get_or-take}
-use borrow.Author.Tests.{eqb-true, eqb-false, eq-eqb}
+use Rattle.std.proofs.Common.{◌≡◌, refl, sym, ap, ap₂, ◌∙◌, ⊎_elim, ◌≢◌, Bool, true, false, not, ◌&&◌, ◌||◌, cond, List, [], ◌∷◌, ℕ, zero, suc, pred, ◌+◌, ◌≤◌, ◌<◌, arith, eqb, length, take, get_or-take, eqb-true, eq-eqb}
+use Rattle.std.proofs.lemmas.Bool.{eqb-false}
 use Rattle.mondschein.specs.Network.{Network, count, at, size, former, latter, Adjacent, joins, passes, link_of, Proper}
 use Rattle.mondschein.specs.Order.{walk_by}
 use Rattle.mondschein.proofs.Logic.{which, clash, and_true, true_and, or_true, or_left, true_or}

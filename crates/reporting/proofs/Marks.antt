@@ -1,15 +1,8 @@
 -- What marks say, of any rows: a duct is marked exactly where a link along the walk lies in it, so no duct above the highest is, and the sums
 -- need not be looked at there.
-use mathlib.Core.Path.{◌≡◌, refl, sym, ap, ◌∙◌}
-use mathlib.Core.Logic.{⊎_elim}
-use mathlib.Core.Bool.{Bool, true, false, ◌||◌, cond}
-use mathlib.Core.List.{List}
-use Prim.Native.Nat.{ℕ, zero, suc, pred, ◌≤◌, ◌<◌}
-use native.Mathlib.Omega.{arith}
-use lib.Dec.{eqb}
-use lib.ListN.{length, set, take, replicate, length-set, length-take, length-replicate, get_or-replicate, get_or-eq_default}
-use lib.Seq.{get_or-take}
-use borrow.Author.Tests.{ne_eqb}
+use Rattle.std.proofs.Common.{◌≡◌, refl, sym, ap, ◌∙◌, ⊎_elim, Bool, true, false, ◌||◌, cond, List, ℕ, zero, suc, pred, ◌≤◌, ◌<◌, arith, eqb, length, set, take, replicate, length-set, length-take, get_or-take, ne_eqb}
+use Rattle.std.proofs.Math.ListN.{get_or-eq_default}
+use Rattle.std.proofs.lemmas.List.{length-replicate, get_or-replicate}
 use Rattle.mondschein.specs.Network.{at, size, link_of}
 use Rattle.mondschein.proofs.Logic.{less?, false_or}
 use Rattle.network.specs.Load.{table_of}

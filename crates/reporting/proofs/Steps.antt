@@ -1,49 +1,33 @@
 -- The loops of the report: the highest duct, marks along a walk, and one more at each duct that passes.
 -- Each law is one turn of a loop.
-use mathlib.Core.Path.{◌≡◌, refl, ap, ◌∙◌}
-use mathlib.Core.Logic.{⊎_elim}
-use mathlib.Core.Bool.{Bool, true, false, cond}
-use mathlib.Core.List.{List}
-use Prim.Native.Nat.{ℕ, zero, suc, pred, ◌+◌, ◌-◌, ◌≤◌, ◌<◌}
-use native.Mathlib.Omega.{arith}
-use native.Mathlib.Numerals.{add-one}
-use lib.Dec.{eqb}
-use lib.ListN.{length, set, replicate, length-set, get_or-eq_default}
-use borrow.Author.Tests.{eq-eqb, ne_eqb}
+use Rattle.std.proofs.Common.{◌≡◌, ◌≢◌, refl, ap, ◌∙◌, ⊎_elim, Bool, true, false, cond, List, ℕ, zero, suc, pred, ◌+◌, ◌-◌, ◌≤◌, ◌<◌, arith, add-one, eqb, length, set, replicate, length-set, eq-eqb, ne_eqb}
+use Rattle.std.proofs.Math.ListN.{get_or-eq_default}
 use Rattle.mondschein.specs.Network.{at}
 use Rattle.mondschein.proofs.Logic.{less?}
 use Rattle.reporting.specs.Reporting.{NoneAbove, more, marks_after, marks_at, losing, raised, Trees, costs, switch_after, switches_after}
 
--- ---- the highest duct: among the first i
-abbrev pub BelowTop : List ℕ → ℕ → ℕ → Type 0
-BelowTop ducts top i = (j : ℕ) → j < i → at ducts j ≤ top
-
-module _ (ducts : List ℕ) where
-  pub top_next : (i : ℕ) {top top' : ℕ} → BelowTop ducts top i → top ≤ top' → at ducts i ≤ top' → BelowTop ducts top' (i + 1)
-  top_next i h l m j k =
-      ⊎_elim (λ (n : j < i). omega (arith, h j n)) (λ (n : i ≤ j). let z : j ≡ i = omega arith in omega (arith, ap (at ducts) z)) (less? j i)
-
-  pub top_end : {top i : ℕ} → BelowTop ducts top i → length ducts ≤ i → NoneAbove top ducts
-  top_end h l j =
-      ⊎_elim (λ (n : j < length ducts). h j (omega arith)) (λ (n : length ducts ≤ j). omega (arith, get_or-eq_default ducts 0 {n = j} n)) (less? j (length ducts))
+-- ---- the highest duct: past the last there is none
+pub top_of_all : (ducts : List ℕ) (top : ℕ) → ((k : ℕ) → k < length ducts → at ducts k ≤ top) → NoneAbove top ducts
+top_of_all ducts top h j =
+    ⊎_elim (λ (n : j < length ducts). h j n) (λ (n : length ducts ≤ j). omega (arith, get_or-eq_default ducts 0 {n = j} n)) (less? j (length ducts))
 
 -- ---- marks along a walk
-module _ (root : ℕ) (p duct : ℕ → ℕ) (limit : ℕ) where
-  pub marks_begin : (v : ℕ) (marks : List ℕ) → marks_after root p duct limit v marks ≡ marks_after root p duct (limit - 0) v marks
-  marks_begin v marks = let e : limit - 0 ≡ limit = omega arith in rw e
-
-  pub marks_at_root : (v k : ℕ) (marks : List ℕ) → k < limit → eqb v root ≡ true → marks_after root p duct (limit - k) v marks ≡ marks
+module _ (root : ℕ) (p duct : ℕ → ℕ) where
+  pub marks_at_root : (k v : ℕ) (marks : List ℕ) → v ≡ root → marks_after root p duct k v marks ≡ marks
   unfolding marks_after
-  marks_at_root v k marks h t = let e : limit - k ≡ suc (limit - (k + 1)) = omega arith in rw (e, t)
+  marks_at_root zero v marks h = refl
+  marks_at_root (suc k) v marks h = rw (eq-eqb v root h)
 
-  pub marks_next : (v k : ℕ) (marks : List ℕ) → k < limit → eqb v root ≡ false
+  pub marks_next : (limit k v : ℕ) (marks : List ℕ) → k < limit → v ≢ root
       → marks_after root p duct (limit - k) v marks ≡ marks_after root p duct (limit - (k + 1)) (p v) (set marks (duct v) 1)
   unfolding marks_after
-  marks_next v k marks h t = let e : limit - k ≡ suc (limit - (k + 1)) = omega arith in rw (e, t)
+  marks_next limit k v marks h t = let e : limit - k ≡ suc (limit - (k + 1)) = omega arith in rw (e, ne_eqb v root t)
 
-  pub marks_end : (v k : ℕ) (marks : List ℕ) → limit ≤ k → marks_after root p duct (limit - k) v marks ≡ marks
+  pub marks_end : (limit k v : ℕ) (marks : List ℕ) → limit ≤ k → marks_after root p duct (limit - k) v marks ≡ marks
   unfolding marks_after
-  marks_end v k marks h = let e : limit - k ≡ 0 = omega arith in rw e
+  marks_end limit k v marks h = let e : limit - k ≡ 0 = omega arith in rw e
+
+pub ruleset walk_marks = (marks_at_root, marks_next, marks_end)
 
 -- ---- one more at each duct that passes
 module _ (p : ℕ → Bool) (sums : List ℕ) where
@@ -51,10 +35,10 @@ module _ (p : ℕ → Bool) (sums : List ℕ) where
   unfolding raised
   raised_begin = refl
 
-  pub raised_next : (k : ℕ) {before after : List ℕ} {b : Bool} → before ≡ raised p sums k → b ≡ p (k + 1)
-      → after ≡ cond b (set before (k + 1) (more (at before (k + 1)))) before → after ≡ raised p sums (k + 1)
+  pub raised_next : (d : ℕ) {before after : List ℕ} {b : Bool} → 1 ≤ d → before ≡ raised p sums (d - 1) → b ≡ p d
+      → after ≡ cond b (set before d (more (at before d))) before → after ≡ raised p sums (d + 1 - 1)
   unfolding raised
-  raised_next k e t q = q ∙ rw (e, t, add-one)
+  raised_next d l e t q = let here : d + 1 - 1 ≡ suc (d - 1) = omega arith in let z : suc (d - 1) ≡ d = omega arith in q ∙ rw (e, t, here, z)
 
 pub raised_length : (p : ℕ → Bool) (sums : List ℕ) (k : ℕ) → length (raised p sums k) ≡ length sums
 unfolding raised

@@ -1,15 +1,6 @@
 -- What the sums hold, by duct, after the switches of a session: for ducts 1 to 255 as many more as switches lose exactly c walks.
 -- As long as no sum can pass 32 bits; at 0, and past 255, they stay.
-use mathlib.Core.Path.{◌≡◌, refl, ◌∙◌}
-use mathlib.Core.Logic.{⊎_elim, ◌≢◌}
-use mathlib.Core.Bool.{Bool, true, false, not, ◌&&◌, cond}
-use mathlib.Core.List.{List}
-use Prim.Native.Nat.{ℕ, zero, suc, ◌+◌, ◌≤◌, ◌<◌}
-use native.Mathlib.Omega.{arith}
-use lib.Dec.{eqb}
-use lib.ListN.{length, set}
-use lib.Seq.{get_or-set_same, get_or-set_other}
-use borrow.Author.Tests.{lt-ltb}
+use Rattle.std.proofs.Common.{◌≡◌, refl, ◌∙◌, ⊎_elim, ◌≢◌, Bool, true, false, not, ◌&&◌, cond, List, ℕ, zero, suc, ◌+◌, ◌≤◌, ◌<◌, arith, eqb, length, set, get_or-set_same, get_or-set_other, lt-ltb}
 use Rattle.mondschein.specs.Network.{count, at}
 use Rattle.mondschein.proofs.Logic.{less?}
 use Rattle.mondschein.proofs.Search.{count_bound}

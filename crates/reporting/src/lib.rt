@@ -6,22 +6,12 @@ ghost use Rattle.std.specs.Prelude.{◌≡◌, cond, ◌+◌, set, replicate};
 ghost use Rattle.mondschein.specs.Network.{at};
 ghost use Rattle.reporting.specs.Reporting.{duct_row, NoneAbove, duct_told, more, marks_after, marks_at, trees, trees_of, RaisesBoth, AddsSwitch, AddsSwitches, AddsLosses};
 
-// Stores the duct of the link from switch v to its entry, and nothing past the end.
-fn store_duct(ducts: &mut [u8], v: u16, duct: u8)
-    ensures { ducts.new ≡ set ducts.old v duct }
-{
-    let i = v as usize;
-    if i < ducts.len() {
-        ducts[i] = duct;
-    }
-}
-
 // A link between a and b: where the row leads from a to b, its duct is that of the entry.
 fn tell_duct(row: &[u16], a: u16, b: u16, duct: u8, ducts: &mut [u8])
     ensures { ducts.new ≡ duct_told row.now a b duct ducts.old }
 {
     if rows::entry(row, a) == b {
-        store_duct(ducts, a, duct);
+        rows::store_at(ducts, a as usize, duct);
     }
 }
 
@@ -30,9 +20,7 @@ fn ducts_along(links: &[u16], ducts: &[u8], row: &[u16]) -> [u8; 1024]
     ensures { result ≡ duct_row links.now ducts.now row.now }
 {
     let mut found = [0u8; 1024];
-    let mut i = links.len() / 2;
-    while 0 < i {
-        i -= 1;
+    for i in (0..links.len() / 2).rev() {
         let a = links[2 * i];
         let b = links[2 * i + 1];
         let duct = rows::mark_at(ducts, i);
@@ -46,15 +34,7 @@ fn ducts_along(links: &[u16], ducts: &[u8], row: &[u16]) -> [u8; 1024]
 fn highest(ducts: &[u8]) -> u8
     ensures { NoneAbove result ducts.now }
 {
-    let mut top: u8 = 0;
-    let mut i = 0;
-    while i < ducts.len() {
-        if top < ducts[i] {
-            top = ducts[i];
-        }
-        i += 1;
-    }
-    top
+    ducts.iter().copied().max().unwrap_or(0)
 }
 
 // The duct of the link from switch v to its entry, and 0 past the end.
@@ -65,18 +45,17 @@ fn duct_of(ducts: &[u8], v: u16) -> u8
 }
 
 // Marks the ducts along the walk of v, cut after so many links.
+#[tactic(auto, using(crate::proofs::Steps::walk_marks))]
 fn mark_walk(row: &[u16], ducts: &[u8], root: u16, v: u16, limit: u16, marks: &mut [u8])
     ensures { marks.new ≡ marks_after root (at row.now) (at ducts.now) limit v marks.old }
 {
     let mut x = v;
-    let mut k: u16 = 0;
-    while k < limit {
+    for _ in 0..limit {
         if x == root {
             return;
         }
         rows::mark(marks, duct_of(ducts, x) as usize);
         x = rows::entry(row, x);
-        k += 1;
     }
 }
 
@@ -90,23 +69,19 @@ fn marks_of(row: &[u16], ducts: &[u8], root: u16, v: u16, limit: u16) -> [u8; 25
 }
 
 // One more, up to the largest number.
+#[tactic(auto, unfolding(crate::specs::Reporting::more))]
 fn more(x: u32) -> u32
     ensures { result ≡ more x }
 {
-    if x < 4294967295 {
-        return x + 1;
-    }
-    x
+    x.saturating_add(1)
 }
 
 // One more at duct d, where it is hit.
 fn raise(sums: &mut [u32], d: usize, hit: bool)
     ensures { sums.new ≡ cond hit (set sums.old d (more (at sums.old d))) sums.old }
 {
-    if hit {
-        if d < sums.len() {
-            sums[d] = more(sums[d]);
-        }
+    if hit && d < sums.len() {
+        sums[d] = more(sums[d]);
     }
 }
 
@@ -130,16 +105,14 @@ fn add_losing(
 )
     ensures { RaisesBoth marks1.now marks2.now marks3.now top two.old three.old two.new three.new }
 {
-    let last = top as usize;
-    let mut d = 0;
-    while d < last {
-        let lost = marks_at(marks1, marks2, marks3, d + 1);
-        raise(two, d + 1, lost == 2);
-        raise(three, d + 1, lost == 3);
-        d += 1;
+    for d in 1..top as usize + 1 {
+        let lost = marks_at(marks1, marks2, marks3, d);
+        raise(two, d, lost == 2);
+        raise(three, d, lost == 3);
     }
 }
 
+// The three trees stand side by side here, as the public call lends them: an array of three would be built only to be taken apart.
 // Switch v, with its three walks: one more at each duct that costs two of them, or all three.
 fn add_switch(
     row1: &[u16],
@@ -183,12 +156,10 @@ fn add_switches(
 )
     ensures { AddsSwitches (trees n root row1.now row2.now row3.now ducts1.now ducts2.now ducts3.now) top n two.old three.old two.new three.new }
 {
-    let mut v: u16 = 0;
-    while v < n {
+    for v in 0..n {
         add_switch(
             row1, row2, row3, ducts1, ducts2, ducts3, n, root, top, v, two, three,
         );
-        v += 1;
     }
 }
 

@@ -3,6 +3,3 @@ use Rattle.reporting.proofs.ducts_along.Given as goal
 
 abbrev pub invariant-loop-i : goal.invariant-loop-i
 invariant-loop-i l = Found l.links l.ducts l.row l.i l.found
-
-abbrev pub decreases-loop-i : goal.decreases-loop-i
-decreases-loop-i l = l.i
