@@ -1,18 +1,9 @@
 -- The augmentation and the copies of s by one turn of each loop of the code.
 -- A search that did not come to t leaves the matching.
-use mathlib.Core.Path.{◌≡◌, refl, ap, ◌∙◌, subst}
-use mathlib.Core.Logic.{◌≢◌}
-use mathlib.Core.Bool.{Bool, true, false, cond}
-use mathlib.Core.List.{List}
-use Prim.Native.Nat.{ℕ, zero, suc, ◌+◌, ◌-◌, ◌≤◌, ◌<◌}
-use native.Mathlib.Numerals.{add-one}
-use native.Mathlib.Omega.{arith}
-use lib.ListN.{length, set}
-use borrow.Author.Tests.{eq-eqb, ne_eqb}
+use Rattle.std.proofs.Common.{◌≡◌, refl, ap, ◌∙◌, subst, ◌≢◌, true, false, cond, List, ℕ, zero, suc, ◌+◌, ◌-◌, ◌≤◌, ◌<◌, add-one, arith, set, eq-eqb, ne_eqb}
 use Rattle.mondschein.specs.Network.{Network, at}
 use Rattle.rows.specs.Rows.{marked}
 use Rattle.disjoint.specs.Matching.{Explored, blank, turns, augment, all, short, inverse, explore, matched, tries}
-use Rattle.disjoint.proofs.Refining.{augment_length}
 
 module _ (k : ℕ) (hs us : List ℕ) (j : ℕ) (l : 0 < j) (next : List ℕ) (w : ℕ) where
   turn : augment k hs us j next w ≡ augment k hs us (suc (j - 1)) next w
@@ -44,16 +35,6 @@ module _ (net : Network) (s t k : ℕ) (next : List ℕ) where
   pub matched_none : marked (explore net s t k next).mark t ≡ false → matched net s t k next ≡ next
   unfolding matched
   matched_none q = rw q
-
-  pub matched_length : length (matched net s t k next) ≡ length next
-  unfolding matched
-  matched_length =
-      let h = explore net s t k next in
-      either (marked h.mark t) (augment k h.heads h.lefts h.count next t) (augment_length k h.heads h.lefts h.count next t)
-    where
-      either : (b : Bool) (a : List ℕ) → length a ≡ length next → length (cond b a next) ≡ length next
-      either true a e = e
-      either false a e = refl
 
   -- h is what the search gave
   module _ (h : Explored) (e : h ≡ explore net s t k next) where

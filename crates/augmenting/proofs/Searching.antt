@@ -1,74 +1,13 @@
 -- A search by one turn of each loop of the code: one switch entered, one half-link of a switch, one turn of the queue.
 -- Whoever follows the index of half-links enters what the definition enters, half-link by half-link.
-use mathlib.Core.Path.{◌≡◌, refl, sym, ap, ◌∙◌}
-use mathlib.Core.Logic.{⊎_elim, ◌≢◌}
-use mathlib.Core.Bool.{Bool, true, false, not, ◌&&◌, ◌||◌, cond}
-use mathlib.Core.List.{List}
-use Prim.Native.Nat.{ℕ, zero, suc, ◌+◌, ◌-◌, ◌*◌, ◌≤◌, ◌<◌}
-use native.Mathlib.Numerals.{add-one}
-use native.Mathlib.Omega.{arith}
-use lib.Dec.{eqb, ltb}
-use lib.ListN.{set}
-use borrow.Author.Tests.{lt-ltb, le-ltb, eq-eqb, ne_eqb, ltb-true}
+use Rattle.std.proofs.Common.{◌≡◌, refl, sym, ap, ◌∙◌, ⊎_elim, ◌≢◌, Bool, true, false, ◌||◌, cond, List, ℕ, zero, suc, ◌+◌, ◌-◌, ◌*◌, ◌≤◌, ◌<◌, add-one, arith, eqb, ltb, lt-ltb, le-ltb, eq-eqb, ne_eqb}
 use Rattle.mondschein.specs.Network.{Network, at, size, former, latter}
-use Rattle.mondschein.proofs.Logic.{same?, and_true}
+use Rattle.mondschein.proofs.Logic.{same?}
 use Rattle.network.specs.Load.{table_of}
 use Rattle.network.specs.Index.{far_end, lowest_half, IndexedFrom}
 use Rattle.network.proofs.Indexing.{half_here, half_past, half_end, Followed}
 use Rattle.rows.specs.Rows.{marked}
-use Rattle.disjoint.specs.Matching.{unnamed, usable, left, Explored, explored_of, entered, leaving, enter, leave_by, leave, turns}
-
--- what is usable, in the code's order
-module _ (s t v w : ℕ) where
-  pub usable_t : v ≡ t → false ≡ usable s t v w
-  unfolding usable
-  usable_t p = rw (eq-eqb v t p)
-
-  pub usable_s : v ≢ t → w ≡ s → false ≡ usable s t v w
-  unfolding usable
-  usable_s d p = rw (ne_eqb v t d, eq-eqb w s p)
-
-  pub usable_other : v ≢ t → w ≢ s → v ≢ s → true ≡ usable s t v w
-  unfolding usable
-  usable_other d f g = rw (ne_eqb v t d, ne_eqb w s f, ne_eqb v s g)
-
-  pub usable_first : v ≢ t → w ≢ s → v ≡ s → not (eqb w t) ≡ usable s t v w
-  unfolding usable
-  usable_first d f g = rw (ne_eqb v t d, ne_eqb w s f, eq-eqb v s g)
-
--- the left number
-pub left_copy : (s k v : ℕ) → v ≡ s → k ≡ left s k v
-unfolding left
-left_copy s k v p = rw (eq-eqb v s p)
-
-pub left_own : (s k v : ℕ) → v ≢ s → v ≡ left s k v
-unfolding left
-left_own s k v d = rw (ne_eqb v s d)
-
--- one switch entered, or not
-pub room_left : (x y : Bool) (c : ℕ) → (x && (y && ltb c 1024)) ≡ true → c < 1024
-room_left x y c q = ltb-true c 1024 (and_true y _ (and_true x _ q).1).1
-
-module _ (s t k v w : ℕ) (mark heads lefts : List ℕ) (count : ℕ) where
-  abbrev h : Explored
-  h = explored_of mark heads lefts count
-
-  pub enter_useless : usable s t v w ≡ false → h ≡ enter s t k v w h
-  unfolding enter
-  enter_useless q = rw q
-
-  pub enter_refused : (not (marked mark t) && (not (marked mark w) && ltb count 1024)) ≡ false → h ≡ enter s t k v w h
-  unfolding enter
-  enter_refused q = go (usable s t v w)
-    where
-      go : (b : Bool) → h ≡ cond (b && (not (marked mark t) && (not (marked mark w) && ltb count 1024))) (entered h w (left s k v)) h
-      go true = rw q
-      go false = refl
-
-  pub enter_done : usable s t v w ≡ true → (not (marked mark t) && (not (marked mark w) && ltb count 1024)) ≡ true
-      → explored_of (set mark w 1) (set heads count w) (set lefts count (left s k v)) (count + 1) ≡ enter s t k v w h
-  unfolding enter entered
-  enter_done p q = rw (p, q) (ap (explored_of (set mark w 1) (set heads count w) (set lefts count (left s k v))) (add-one count))
+use Rattle.disjoint.specs.Matching.{unnamed, Explored, leaving, enter, leave_by, leave, turns}
 
 -- the half-links of one switch
 module _ (net : Network) (s t k v : ℕ) where
@@ -136,25 +75,11 @@ module _ (n : ℕ) (links : List ℕ) (s t k v : ℕ) (h : Explored) where
   unfolding leave size
   leave_switch l = rw (lt-ltb v n l) (ap (enter s t k v v) (same_table n links s t k v (2 * size (table_of links)) 0 h))
 
--- the switch that a turn leaves
-pub leaving_first : (s : ℕ) (previous heads : List ℕ) (q : ℕ) → q ≡ 0 → s ≡ leaving s previous heads q
-unfolding leaving
-leaving_first s previous heads zero e = refl
-leaving_first s previous heads (suc q) e = absurd (omega arith)
-
-pub leaving_later : (s : ℕ) (previous heads : List ℕ) (q : ℕ) → q ≢ 0 → at previous (at heads (q - 1)) ≡ leaving s previous heads q
-unfolding leaving
-leaving_later s previous heads zero e = absurd (e refl)
-leaving_later s previous heads (suc q) e = ap (λ (y : ℕ). at previous (at heads y)) (let z : suc q - 1 ≡ q = omega arith in z)
-
 -- the turns
 module _ (net : Network) (s t k : ℕ) (previous : List ℕ) where
   -- those from q on
   abbrev pub ahead : ℕ → Explored → Explored
   ahead q h = turns net s t k previous (suc net.n - q) q h
-
-  pub turns_begin : (h : Explored) → turns net s t k previous (suc net.n) 0 h ≡ ahead 0 h
-  turns_begin h = ap (λ (f : ℕ). turns net s t k previous f 0 h) (let z : suc net.n ≡ suc net.n - 0 = omega arith in z)
 
   module _ (q : ℕ) (h : Explored) where
     pub turns_end : net.n < q → ahead q h ≡ h

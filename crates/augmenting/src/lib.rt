@@ -2,7 +2,7 @@
 // Link tables are plain numbers, two for each link, with their index of half-links; what a search enters is marked, and is its queue.
 #![tactic(auto)]
 
-ghost use Rattle.std.specs.Prelude.{◌≡◌, not, ◌&&◌, suc, ◌*◌, ◌≤◌, ◌<◌, ltb};
+ghost use Rattle.std.specs.Prelude.{◌≡◌, [], not, ◌&&◌, suc, ◌*◌, ◌≤◌, ◌<◌, ltb, is_some, unwrap_or};
 ghost use Rattle.mondschein.specs.Network.{at, size};
 ghost use Rattle.network.specs.Load.{table_of};
 ghost use Rattle.network.specs.Index.{IndexedFrom};
@@ -13,42 +13,27 @@ ghost use Rattle.disjoint.specs.Matching.{unnamed, usable, left, explored_of, le
 fn enterable(mark: &[u8], t: u16, w: u16, count: u16) -> bool
     ensures { result ≡ (not (marked mark.now t) && (not (marked mark.now w) && ltb count 1024)) }
 {
-    if 0 < rows::mark_at(mark, t as usize) {
-        return false;
-    }
-    if 0 < rows::mark_at(mark, w as usize) {
-        return false;
-    }
-    count < 1024
+    rows::mark_at(mark, t as usize) == 0 && rows::mark_at(mark, w as usize) == 0 && count < 1024
 }
 
 // From v to w: t is not left, s is not entered, and the direct link is not used.
+#[tactic(auto, unfolding(disjoint::specs::Matching::usable))]
 fn usable(s: u16, t: u16, v: u16, w: u16) -> bool
     ensures { result ≡ usable s t v w }
 {
-    if v == t {
-        return false;
-    }
-    if w == s {
-        return false;
-    }
-    if v != s {
-        return true;
-    }
-    w != t
+    v != t && w != s && (v != s || w != t)
 }
 
 // The left number of switch v: copy k for s.
+#[tactic(auto, unfolding(disjoint::specs::Matching::left))]
 fn left_of(s: u16, k: u16, v: u16) -> u16
     ensures { result ≡ left s k v }
 {
-    if v == s {
-        return k;
-    }
-    v
+    if v == s { k } else { v }
 }
 
 // Enters w from v, unless w or t was entered before. Gives the number of entries.
+#[tactic(auto, unfolding(disjoint::specs::Matching::enter, disjoint::specs::Matching::entered))]
 fn enter(
     s: u16,
     t: u16,
@@ -62,10 +47,7 @@ fn enter(
 ) -> u16
     ensures { explored_of mark.new heads.new lefts.new result ≡ enter s t k v w (explored_of mark.old heads.old lefts.old count) }
 {
-    if !usable(s, t, v, w) {
-        return count;
-    }
-    if !enterable(mark, t, w, count) {
+    if !usable(s, t, v, w) || !enterable(mark, t, w, count) {
         return count;
     }
     rows::mark(mark, w as usize);
@@ -93,6 +75,7 @@ fn leave_by(
     let m = links.len() / 2;
     let mut c = count;
     let mut h = index[v as usize] as usize;
+    // A `while`: the turns follow the chain of the half-links of v to its end, which is past the last one.
     while h < 2 * m {
         c = enter(
             s,
@@ -135,13 +118,15 @@ fn leave(
 }
 
 // The switch that turn q leaves: s, then the one that entry q - 1 followed on before the search.
+#[tactic(auto, unfolding(disjoint::specs::Matching::leaving))]
 fn leaving(s: u16, previous: &[u16], heads: &[u16], q: u16) -> u16
     ensures { result ≡ leaving s previous.now heads.now q }
 {
     if q == 0 {
-        return s;
+        s
+    } else {
+        rows::entry(previous, rows::entry(heads, q - 1))
     }
-    rows::entry(previous, rows::entry(heads, q - 1))
 }
 
 // The turns of a search, until t is entered or every entry had its turn. Gives the number of entries.
@@ -161,29 +146,23 @@ fn turns(
     ensures { explored_of mark.new heads.new lefts.new result ≡ turns (unnamed n links.now) s t k previous.now (suc n) 0 (explored_of mark.old heads.old lefts.old 0) }
 {
     let mut count: u16 = 0;
-    let mut q: u16 = 0;
-    while q <= n {
-        if count < q {
-            return count;
-        }
-        if 0 < rows::mark_at(mark, t as usize) {
+    for q in 0..n + 1 {
+        if count < q || 0 < rows::mark_at(mark, t as usize) {
             return count;
         }
         let v = leaving(s, previous, heads, q);
         count = leave(n, links, index, s, t, k, v, mark, heads, lefts, count);
-        q += 1;
     }
     count
 }
 
 // The left number that each right number follows on, of those below k.
+#[tactic(auto, unfolding(rows::specs::Rows::assigned))]
 fn invert(next: &[u16], k: u16, previous: &mut [u16])
     ensures { previous.new ≡ assigned previous.old (at next.now) (λ u. u) k }
 {
-    let mut u: u16 = 0;
-    while u < k {
+    for u in 0..k {
         rows::store(previous, rows::entry(next, u), u);
-        u += 1;
     }
 }
 
@@ -191,10 +170,8 @@ fn invert(next: &[u16], k: u16, previous: &mut [u16])
 fn augment(k: u16, heads: &[u16], lefts: &[u16], count: u16, next: &mut [u16], t: u16)
     ensures { next.new ≡ augment k heads.now lefts.now count next.old t }
 {
-    let mut j = count;
     let mut w = t;
-    while 0 < j {
-        j -= 1;
+    for j in (0..count).rev() {
         let h = rows::entry(heads, j);
         if h == w {
             let u = rows::entry(lefts, j);
@@ -209,6 +186,7 @@ fn augment(k: u16, heads: &[u16], lefts: &[u16], count: u16, next: &mut [u16], t
 }
 
 // One search from copy k; where it comes to t, copy k is matched. Gives the marks.
+#[tactic(auto, unfolding(disjoint::specs::Matching::explore, disjoint::specs::Matching::matched))]
 fn attempt(
     n: u16,
     links: &[u16],
@@ -235,14 +213,7 @@ fn attempt(
     mark
 }
 
-// What the searches ended with: whether one did not come to t, and its marks.
-#[derive(Clone, Copy)]
-pub struct Tried {
-    pub short: bool,
-    pub mark: [u8; 1024],
-}
-
-// Matches so many copies of s, one after another, until a search does not come to t.
+// Matches so many copies of s, one after another, until a search does not come to t: gives the marks of that search.
 pub fn tries(
     n: u16,
     links: &[u16],
@@ -251,22 +222,15 @@ pub fn tries(
     t: u16,
     want: u16,
     next: &mut [u16],
-) -> Tried
+) -> Option<[u8; 1024]>
     requires { IndexedFrom (table_of links.now) 0 index.now × (n ≤ 1024) × (want ≤ 3) }
-    ensures { tried_of result.short result.mark next.new ≡ tries (unnamed n links.now) s t want n next.old }
+    ensures { tried_of (is_some result) (unwrap_or result []) next.new ≡ tries (unnamed n links.now) s t want n next.old }
 {
-    let mut i = want;
-    let mut k = n;
-    while 0 < i {
+    for k in n..n + want {
         let mark = attempt(n, links, index, s, t, k, next);
         if rows::mark_at(&mark, t as usize) == 0 {
-            return Tried { short: true, mark };
+            return Some(mark);
         }
-        k += 1;
-        i -= 1;
     }
-    Tried {
-        short: false,
-        mark: [0u8; 1024],
-    }
+    None
 }

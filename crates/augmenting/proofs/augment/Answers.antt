@@ -1,35 +1,32 @@
-use mathlib.Core.Path.{refl, sym, ap, ap₂, ◌∙◌}
-use Prim.Native.Nat.{ℕ, ◌-◌}
-use native.Mathlib.Omega.{arith}
-use lib.ListN.{set, length-set}
+use Rattle.std.proofs.Common.{ℕ, ◌-◌, sym, ap, ap₂, ◌∙◌, set, arith}
 use Rattle.mondschein.specs.Network.{at}
 use Rattle.disjoint.specs.Matching.{augment}
 use Rattle.augmenting.proofs.Leading.{augment_past, augment_on, augment_stop, augment_end}
 use Rattle.augmenting.proofs.augment.Goals as goal
 
-pub loop-j-init : goal.loop-j-init
-loop-j-init c = (refl, refl)
-
 pub returns-then-u-k : goal.returns-then-u-k
 returns-then-u-k c =
-    c.store.ensures
-    ∙ ap (λ (u : ℕ). set c.loop-j.next u c.loop-j.w) c.entry-u.ensures
-    ∙ sym (c.loop-j.invariant.1 ∙ augment_stop c.args.k c.args.heads.now c.args.lefts.now c.loop-j.j c.loop-j-test.true c.loop-j.next c.loop-j.w (sym c.entry-h.ensures ∙ c.if-h-w.true) (sym c.entry-u.ensures ∙ c.if-u-k.true))
+    let a = c.args in
+    let l = c.loop-j in
+    c.store.ensures ∙ ap (λ (u : ℕ). set l.next u l.w) c.entry-u.ensures
+    ∙ sym (l.invariant ∙ augment_stop a.k a.heads.now a.lefts.now l.j (omega arith) l.next l.w (omega arith) (omega arith))
 
 pub loop-j-preserved-then-h-w : goal.loop-j-preserved-then-h-w
-loop-j-preserved-then-h-w c = (
-  simp (c.store.ensures, length-set) c.loop-j.invariant.0,
-  c.loop-j.invariant.1
-      ∙ augment_on c.args.k c.args.heads.now c.args.lefts.now c.loop-j.j c.loop-j-test.true c.loop-j.next c.loop-j.w (sym c.entry-h.ensures ∙ c.if-h-w.true) (λ q. c.if-u-k.false (c.entry-u.ensures ∙ q))
-      ∙ ap₂ (augment c.args.k c.args.heads.now c.args.lefts.now (c.loop-j.j - 1)) (sym (c.store.ensures ∙ ap (λ (x : ℕ). set c.loop-j.next x c.loop-j.w) c.entry-u.ensures)) (sym (c.entry-old.ensures ∙ ap (at c.loop-j.next) c.entry-u.ensures)),
-)
+loop-j-preserved-then-h-w c =
+    let a = c.args in
+    let l = c.loop-j in
+    l.invariant
+    ∙ augment_on a.k a.heads.now a.lefts.now l.j (omega arith) l.next l.w (omega arith) (λ q. c.if-u-k.false (c.entry-u.ensures ∙ q))
+    ∙ ap₂ (augment a.k a.heads.now a.lefts.now (l.j - 1)) (sym (c.store.ensures ∙ ap (λ (x : ℕ). set l.next x l.w) c.entry-u.ensures)) (sym (c.entry-old.ensures ∙ ap (at l.next) c.entry-u.ensures))
 
 pub loop-j-preserved : goal.loop-j-preserved
-loop-j-preserved c = (
-  c.loop-j.invariant.0,
-  c.loop-j.invariant.1 ∙ augment_past c.args.k c.args.heads.now c.args.lefts.now c.loop-j.j c.loop-j-test.true c.loop-j.next c.loop-j.w (λ q. c.if-h-w.false (c.entry-h.ensures ∙ q)),
-)
+loop-j-preserved c =
+    let a = c.args in
+    let l = c.loop-j in
+    l.invariant ∙ augment_past a.k a.heads.now a.lefts.now l.j (omega arith) l.next l.w (λ q. c.if-h-w.false (c.entry-h.ensures ∙ q))
 
 pub returns : goal.returns
 returns c =
-    sym (c.loop-j.invariant.1 ∙ augment_end c.args.k c.args.heads.now c.args.lefts.now c.loop-j.j c.loop-j.next c.loop-j.w (omega (arith, c.loop-j-test.false)))
+    let a = c.args in
+    let l = c.loop-j in
+    sym (l.invariant ∙ augment_end a.k a.heads.now a.lefts.now l.j l.next l.w (omega arith))

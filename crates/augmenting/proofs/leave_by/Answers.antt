@@ -1,56 +1,48 @@
-use mathlib.Core.Path.{refl, sym, ap, ◌∙◌}
-use mathlib.Core.Bool.{false}
-use Prim.Native.Nat.{ℕ, ◌+◌, ◌*◌, ◌<◌}
-use native.Mathlib.Omega.{arith}
+use Rattle.std.proofs.Common.{false, ℕ, ◌+◌, ◌*◌, ◌<◌, refl, sym, ap, ◌∙◌, arith}
 use Rattle.mondschein.specs.Network.{at, size}
 use Rattle.network.specs.Load.{table_of}
 use Rattle.network.proofs.Indexing.{follow_begin, follow_miss, follow_more}
 use Rattle.disjoint.specs.Matching.{explored_of, enter}
 use Rattle.augmenting.proofs.Searching.{from, from_end, from_begin, from_next}
-use borrow.Author.Rules.{rules}
 use Rattle.augmenting.proofs.leave_by.Goals as goal
-
-pub bounds-index-v : goal.bounds-index-v
-bounds-index-v c = omega (arith, c.requires.0.places, c.requires.1)
 
 pub loop-h-init : goal.loop-h-init
 unfolding size
-loop-h-init c = (
-  refl,
-  refl,
-  refl,
-  refl,
-  follow_begin (table_of c.args.links.now) c.args.index.now c.requires.0 c.args.v c.requires.1 (λ _. false),
-  from_begin (table_of c.args.links.now) c.args.s c.args.t c.args.k c.args.v c.args.index.now c.requires.0 c.requires.1 (explored_of c.args.mark.now c.args.heads.now c.args.lefts.now c.args.count),
-)
-
-pub far_end-requires : goal.far_end-requires
-unfolding size
-far_end-requires c = omega (arith, c.loop-h-test.true, c.loop-h.invariant.3)
+loop-h-init c =
+    let a = c.args in
+    let net = table_of a.links.now in (
+      follow_begin net a.index.now c.requires.0 a.v c.requires.1 (λ _. false),
+      from_begin net a.s a.t a.k a.v a.index.now c.requires.0 c.requires.1 (explored_of a.mark.now a.heads.now a.lefts.now a.count),
+    )
 
 pub bounds-index-h : goal.bounds-index-h
 unfolding size
-bounds-index-h c = omega (arith, c.loop-h-test.true, c.loop-h.invariant.3, c.requires.0.places, c.requires.0.fits)
+bounds-index-h c = omega (arith, c.requires.0.places, c.requires.0.fits)
 
 pub loop-h-smaller : goal.loop-h-smaller
+unfolding size
 loop-h-smaller c =
-    omega (arith, c.loop-h-test.true, follow_more (table_of c.args.links.now) c.args.index.now c.requires.0 c.args.v c.requires.1 (λ _. false) c.loop-h.h c.loop-h.invariant.4 (omega (arith, c.loop-h-test.true, c.loop-h.invariant.3)))
+    let a = c.args in
+    let l = c.loop-h in
+    omega (arith, follow_more (table_of a.links.now) a.index.now c.requires.0 a.v c.requires.1 (λ _. false) l.h l.invariant.0 (omega arith))
 
 pub loop-h-preserved : goal.loop-h-preserved
+unfolding size
 loop-h-preserved c =
-    let net = table_of c.args.links.now in
-    let within : c.loop-h.h < 2 * size net = omega (arith, c.loop-h-test.true, c.loop-h.invariant.3) in (
-      search rules,
-      search rules,
-      search rules,
-      c.loop-h.invariant.3,
-      follow_miss net c.args.index.now c.requires.0 c.args.v c.requires.1 (λ _. false) c.loop-h.h c.loop-h.invariant.4 within refl,
-      c.loop-h.invariant.5
-          ∙ from_next net c.args.s c.args.t c.args.k c.args.v c.args.index.now c.requires.0 c.requires.1 c.loop-h.h (explored_of c.loop-h.mark c.loop-h.heads c.loop-h.lefts c.loop-h.c) c.loop-h.invariant.4 within
-          ∙ ap (from net c.args.s c.args.t c.args.k c.args.v (at c.args.index.now (2048 + c.loop-h.h)))
-          (ap (λ (w : ℕ). enter c.args.s c.args.t c.args.k c.args.v w (explored_of c.loop-h.mark c.loop-h.heads c.loop-h.lefts c.loop-h.c)) (sym c.far_end.ensures) ∙ sym c.enter-c.ensures),
+    let a = c.args in
+    let l = c.loop-h in
+    let net = table_of a.links.now in
+    let h = explored_of l.mark l.heads l.lefts l.c in
+    let within : l.h < 2 * size net = omega arith in (
+      follow_miss net a.index.now c.requires.0 a.v c.requires.1 (λ _. false) l.h l.invariant.0 within refl,
+      l.invariant.1
+          ∙ from_next net a.s a.t a.k a.v a.index.now c.requires.0 c.requires.1 l.h h l.invariant.0 within
+          ∙ ap (from net a.s a.t a.k a.v (at a.index.now (2048 + l.h))) (ap (λ (w : ℕ). enter a.s a.t a.k a.v w h) (sym c.far_end.ensures) ∙ sym c.enter-c.ensures),
     )
 
 pub returns : goal.returns
+unfolding size
 returns c =
-    sym (c.loop-h.invariant.5 ∙ from_end (table_of c.args.links.now) c.args.s c.args.t c.args.k c.args.v c.loop-h.h (explored_of c.loop-h.mark c.loop-h.heads c.loop-h.lefts c.loop-h.c) (omega (arith, c.loop-h-test.false, c.loop-h.invariant.3)))
+    let a = c.args in
+    let l = c.loop-h in
+    sym (l.invariant.1 ∙ from_end (table_of a.links.now) a.s a.t a.k a.v l.h (explored_of l.mark l.heads l.lefts l.c) (omega arith))

@@ -1,6 +1,4 @@
-use mathlib.Core.Path.{◌≡◌}
-use Prim.Native.Nat.{◌-◌, ◌*◌}
-use lib.ListN.{length}
+use Rattle.std.proofs.Common.{◌≡◌, ◌-◌, ◌*◌}
 use Rattle.mondschein.specs.Network.{size}
 use Rattle.network.specs.Load.{table_of}
 use Rattle.disjoint.specs.Matching.{explored_of, leave_by}
@@ -9,7 +7,7 @@ use Rattle.augmenting.proofs.leave_by.Given as goal
 
 abbrev pub invariant-loop-h : goal.invariant-loop-h
 invariant-loop-h l =
-    (length l.mark ≡ length l.initial.mark) × (length l.heads ≡ length l.initial.heads) × (length l.lefts ≡ length l.initial.lefts) × (l.m ≡ size (table_of l.links)) × Stands (table_of l.links) l.s l.t l.k l.v l.h
+    Stands (table_of l.links) l.s l.t l.k l.v l.h
     × (leave_by (table_of l.links) l.s l.t l.k l.v (2 * size (table_of l.links)) 0 (explored_of l.initial.mark l.initial.heads l.initial.lefts l.count) ≡ from (table_of l.links) l.s l.t l.k l.v l.h (explored_of l.mark l.heads l.lefts l.c))
 
 abbrev pub decreases-loop-h : goal.decreases-loop-h
