@@ -1,16 +1,9 @@
 -- The switches of a cut, as the code finds them: the lowest one, and the lowest but that one.
--- Then the tests of one switch, and the matching to begin with.
-use mathlib.Core.Path.{◌≡◌, refl, ap, ◌∙◌}
-use mathlib.Core.Bool.{Bool, true, false, not, ◌&&◌, cond}
-use mathlib.Core.List.{List, [], ◌∷◌}
-use Prim.Native.Nat.{ℕ, suc, ◌≤◌, ◌<◌}
-use native.Mathlib.Omega.{arith}
-use lib.Dec.{eqb, ltb}
-use borrow.Author.Tests.{lt-ltb, le-ltb, ne_eqb}
-use Rattle.mondschein.specs.Network.{low, any, at}
+-- A search that finds none answers n.
+use Rattle.std.proofs.Common.{◌≡◌, refl, ap, ◌∙◌, Bool, true, false, not, ◌&&◌, cond, List, [], ◌∷◌, ℕ, suc, ◌≤◌, ◌<◌, arith, eqb, ltb, lt-ltb, le-ltb, ne_eqb}
+use Rattle.mondschein.specs.Network.{low, any}
 use Rattle.mondschein.specs.Routes.{Thing, switch}
 use Rattle.mondschein.proofs.Search.{low_ext}
-use Rattle.rows.specs.Rows.{marked}
 use Rattle.disjoint.specs.Matching.{lowest, in_cut}
 use Rattle.routing.specs.Answers.{in_cut_but}
 
@@ -54,17 +47,3 @@ module _ (n : ℕ) (next mark : List ℕ) where
 
       pub lowest_two : y < n → lowest n 2 (in_cut next mark) ≡ switch x ∷ switch y ∷ []
       lowest_two h = lowest_some 1 l ∙ ap (λ (z : List Thing). switch x ∷ z) (lowest_turn n 0 (in_cut_but next mark x) ∙ rw (← ey, lt-ltb y n h, lowest_none))
-
--- one switch, in the code's order
-module _ (next mark : List ℕ) (x w : ℕ) where
-  pub cut_unmarked : marked mark w ≡ false → false ≡ in_cut_but next mark x w
-  unfolding in_cut_but
-  cut_unmarked p = rw p
-
-  pub cut_left : marked mark w ≡ true → marked mark (at next w) ≡ true → false ≡ in_cut_but next mark x w
-  unfolding in_cut_but
-  cut_left p q = rw (p, q)
-
-  pub cut_kept : marked mark w ≡ true → marked mark (at next w) ≡ false → not (eqb w x) ≡ in_cut_but next mark x w
-  unfolding in_cut_but
-  cut_kept p q = rw (p, q)

@@ -1,24 +1,23 @@
-use mathlib.Core.Path.{sym, ap, ◌∙◌}
-use native.Mathlib.Omega.{arith}
+use Rattle.std.proofs.Common.{sym, ap, ◌∙◌, arith}
+use Rattle.mondschein.specs.Network.{size}
+use Rattle.network.specs.Load.{table_of}
 use Rattle.disjoint.specs.Paths.{Routes}
 use Rattle.disjoint.specs.Matching.{unnamed}
 use Rattle.disjoint.specs.Replies.{told_of}
 use Rattle.routing.proofs.Written.{joined_when, joined_unless, routes_plain, routes_direct}
-use borrow.Author.Rules.{rules}
 use Rattle.routing.proofs.answer.Goals as goal
 
-pub answer_direct-requires : goal.answer_direct-requires
-answer_direct-requires c = (c.make_index.ensures (search rules), c.requires.0, c.link_by-direct.ensures)
-
-pub returns-then-direct-links : goal.returns-then-direct-links
-returns-then-direct-links c =
+pub returns-in-Some : goal.returns-in-Some
+unfolding size
+returns-in-Some c =
+    let a = c.args in
+    let s = c.in-Some in
     c.answer_direct.ensures
-    ∙ ap (λ (r : Routes). told_of r c.args.out.now) (sym (routes_direct (unnamed c.args.n c.args.links.now) c.args.s c.args.t (joined_when c.args.n c.args.links.now c.args.s c.args.t c.link_by-direct.result c.link_by-direct.ensures c.if-direct-links.true)))
+    ∙ ap (λ (r : Routes). told_of r a.out.now) (sym (routes_direct (unnamed a.n a.links.now) a.s a.t (joined_when a.n a.links.now a.s a.t s.direct s.ensures.lowest s.ensures.within)))
 
-pub answer_plain-requires : goal.answer_plain-requires
-answer_plain-requires c = (c.make_index.ensures (search rules), c.requires.0)
-
-pub returns : goal.returns
-returns c =
+pub returns-in-None : goal.returns-in-None
+unfolding size
+returns-in-None c =
+    let a = c.args in
     c.answer_plain.ensures
-    ∙ ap (λ (r : Routes). told_of r c.args.out.now) (sym (routes_plain (unnamed c.args.n c.args.links.now) c.args.s c.args.t (joined_unless c.args.n c.args.links.now c.args.s c.args.t c.link_by-direct.result c.link_by-direct.ensures (omega (arith, c.if-direct-links.false)))))
+    ∙ ap (λ (r : Routes). told_of r a.out.now) (sym (routes_plain (unnamed a.n a.links.now) a.s a.t (joined_unless a.n a.links.now a.s a.t (size (table_of a.links.now)) c.in-None.ensures.lowest (omega arith))))
