@@ -2,6 +2,5 @@ pub mod Decimals
 pub mod Parts
 pub mod EarNumbers
 pub mod ReadExactly
-pub mod Places
 pub mod Steps
 pub mod Examples
