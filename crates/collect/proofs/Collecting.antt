@@ -1,29 +1,18 @@
 -- Laws of one line without the session: a reply read back from its slice, one more link or one too many, and the form that was read.
 -- Lists at the start of a slice are read back by their count.
-use mathlib.Core.Path.{◌≡◌, refl, sym, ap, ap₂, ◌∙◌}
-use mathlib.Core.Bool.{Bool, true, false, cond}
-use mathlib.Core.List.{List, [], ◌∷◌, ◌++◌, append_assoc}
-use mathlib.Core.Option.{Option, none, some}
-use Prim.Native.Nat.{ℕ, suc, ◌+◌, ◌*◌, ◌≤◌, ◌<◌}
-use native.Mathlib.Numerals.{add-one}
-use native.Mathlib.Omega.{arith}
-use lib.Dec.{ltb}
-use lib.ListN.{length, set, take, drop, length-set, length-take}
-use lib.Seq.{take_at, take-suc-set}
-use borrow.Author.Tests.{lt-ltb, le-ltb}
+use Rattle.std.proofs.Common.{◌≡◌, ℕ, suc, ◌+◌, ◌*◌, ◌<◌, ◌≤◌, Bool, true, false, cond, ltb, List, [], ◌∷◌, ◌++◌, length, take, drop, set, Ok, Err, None, refl, sym, ap, ap₂, ◌∙◌, arith, append_assoc, length-set, length-take, add-one, take_at, take-suc-set, lt-ltb, le-ltb}
+use Rattle.std.proofs.Math.Option.{Option, none, some}
 use Rattle.in_place.specs.declared.Session.{Session}
 use Rattle.lines.specs.Writing.{Form, net, link, ducted, opening, ear, closing, walk, clearing}
 use Rattle.lines.specs.Reading.{reading}
-use Rattle.lines.specs.declared.Form.{Form as Code-as-Form}
 use Rattle.lines.specs.declared.Form.TheVariants.{Link}
 use Rattle.lines.specs.Line.{coded, held}
 use Rattle.replies.specs.Replies.{unread, reply, Printed}
 use Rattle.transcript.specs.Transcript.{Turn}
 use Rattle.collect.specs.declared.Kept.{Kept}
-use Rattle.collect.specs.declared.Request.TheVariants.{Nothing}
-use Rattle.collect.specs.declared.Answered.{Answered}
+use Rattle.collect.specs.declared.Unreadable.{Unreadable}
 use Rattle.collect.specs.Dialogue.{Dialogue, with_links, silent, unread_at, collected, respond, turn}
-use Rattle.collect.specs.Answering.{dialogue_in, requested, effect_in, turn_of, respond_to, Responds}
+use Rattle.collect.specs.Answering.{dialogue_in, requested, respond_to, Responds}
 
 -- what was written is read back by its count
 pub printed_back : (bytes held holds : List ℕ) (r : ℕ) → Printed bytes held r holds → take r holds ≡ bytes
@@ -42,12 +31,10 @@ module _ (d : Kept) (links ducts : List ℕ) (k a b duct : ℕ) (whole : length 
   counted s full =
       ap (λ (t : Bool). cond t (grown s (take (2 * d.count) links ++ (a ∷ b ∷ [])) (take d.count ducts ++ (duct ∷ []))) (unread_at (dialogue_in d s links ducts) k))
 
-  pub link_full : (out : List ℕ) (r : Answered) → 4096 ≤ d.count
-      → effect_in r out ≡ record { kept = d; request = Nothing; printed = reply (unread k); stops = true }
-      → Responds d links ducts k (Link a b duct) r links ducts out
+  pub link_full : (out : List ℕ) (u : Unreadable) → 4096 ≤ d.count → take u.written out ≡ reply (unread k) → Responds d links ducts k (Link a b duct) (Err u) links ducts out
   unfolding respond_to requested
-  link_full out r h e s numbers =
-      ap (turn_of s k numbers links ducts) e
+  link_full out u h e s numbers =
+      ap (λ (l : List ℕ). record { after = dialogue_in d s links ducts; printed = l; stops = true }) e
       ∙ sym (counted s false (le-ltb (length (take (2 * d.count) links)) 8192 (omega (arith, length-take (2 * d.count) links))))
 
   pair_taken : d.count < 4096 → take (2 * (d.count + 1)) (set (set links (2 * d.count) a) (2 * d.count + 1) b) ≡ take (2 * d.count) links ++ (a ∷ b ∷ [])
@@ -62,22 +49,13 @@ module _ (d : Kept) (links ducts : List ℕ) (k a b duct : ℕ) (whole : length 
   duct_taken : d.count < 4096 → take (d.count + 1) (set ducts d.count duct) ≡ take d.count ducts ++ (duct ∷ [])
   duct_taken h = rw add-one (take-suc-set ducts d.count duct (omega arith))
 
-  pub link_more : (out : List ℕ) (r : Answered) → d.count < 4096
-      → r ≡ record { kept = record { n = d.n; root = d.root; first = d.first; last = d.last; count = d.count + 1 }; request = Nothing; written = 0; stops = false }
-      → Responds d links ducts k (Link a b duct) r (set (set links (2 * d.count) a) (2 * d.count + 1) b) (set ducts d.count duct) out
+  pub link_more : (out : List ℕ) → d.count < 4096
+      → Responds d links ducts k (Link a b duct) (Ok (record { kept = record { n = d.n; root = d.root; first = d.first; last = d.last; count = d.count + 1 }; request = None }))
+      (set (set links (2 * d.count) a) (2 * d.count + 1) b) (set ducts d.count duct) out
   unfolding respond_to requested
-  link_more out r h e s numbers =
-      ap (λ (x : Answered). turn_of s k numbers (set (set links (2 * d.count) a) (2 * d.count + 1) b) (set ducts d.count duct) (effect_in x out)) e
-      ∙ ap₂ (grown s) (pair_taken h) (duct_taken h)
+  link_more out h s numbers =
+      ap₂ (grown s) (pair_taken h) (duct_taken h)
       ∙ sym (counted s true (lt-ltb (length (take (2 * d.count) links)) 8192 (omega (arith, length-take (2 * d.count) links))))
-
--- a form leads to what its case leads to
-pub responds_as : (d : Kept) (links ducts : List ℕ) (k : ℕ) (out : List ℕ) {form f : Code-as-Form} {r x : Answered} → form ≡ f → r ≡ x
-    → Responds d links ducts k f x links ducts out → Responds d links ducts k form r links ducts out
-responds_as d links ducts k out e q h s numbers =
-    ap (λ (y : Answered). turn_of s k numbers links ducts (effect_in y out)) q
-    ∙ h s numbers
-    ∙ sym (ap (λ (g : Code-as-Form). respond_to (dialogue_in d s links ducts) k g numbers) e)
 
 -- the form that was read, and an ear's numbers in a slice, lead to what the line leads to
 pub coded_turn : (d : Dialogue) (k : ℕ) (s numbers : List ℕ) → respond_to d k (coded (reading s)) (held (reading s) numbers) ≡ turn d k s

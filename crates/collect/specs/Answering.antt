@@ -1,7 +1,7 @@
 -- What the contracts over one line cite: the dialogue as the code holds it, what a line asks of the session, and what is known after it.
 -- The collected links stand at the start of a slice beside the dialogue, two numbers each, and their ducts in another; the numbers of an
 -- ear in a third.
-use Rattle.std.specs.Prelude.{◌≡◌, Bool, false, List, ◌++◌, ℕ, pred, ◌*◌, take, drop}
+use Rattle.std.specs.Prelude.{◌≡◌, Bool, true, false, List, [], ◌++◌, ℕ, pred, ◌*◌, take, drop, Option, None, Some, Result, Ok, Err}
 use Rattle.std.proofs.Math.Option.{none, some}
 use Rattle.in_place.specs.declared.Session.{Session}
 use Rattle.lines.specs.declared.Form.{Form as Code-as-Form}
@@ -11,8 +11,9 @@ use Rattle.collect.specs.declared.Kept.{Kept}
 use Rattle.collect.specs.declared.Call.{Call as Code-as-Call}
 use Rattle.collect.specs.declared.Call.TheVariants.{Open, Ear, Close, Clear}
 use Rattle.collect.specs.declared.Request.{Request}
-use Rattle.collect.specs.declared.Request.TheVariants.{Nothing, Walk, Call}
-use Rattle.collect.specs.declared.Answered.{Answered}
+use Rattle.collect.specs.declared.Request.TheVariants.{Walk, Call}
+use Rattle.collect.specs.declared.Asked.{Asked}
+use Rattle.collect.specs.declared.Unreadable.{Unreadable}
 use Rattle.collect.specs.declared.Reader.{Reader as Code-as-Reader}
 use Rattle.collect.specs.declared.Ending.{Ending}
 use Rattle.transcript.specs.Transcript.{Turn, Reader, over, ended}
@@ -35,26 +36,32 @@ form_of Close numbers = closing
 form_of Clear numbers = clearing
 
 -- line number k with what it asks of the session, from what it leads to without
-unfoldable pub requested : Request → List ℕ → ℕ → Turn Dialogue → Turn Dialogue
-requested Nothing numbers k t = t
-requested (Walk switch tree) numbers k t = respond t.after k (some (walk switch tree))
-requested (Call c) numbers k t = respond t.after k (some (form_of c numbers))
+unfoldable pub requested : Option Request → List ℕ → ℕ → Turn Dialogue → Turn Dialogue
+requested None numbers k t = t
+requested (Some (Walk switch tree)) numbers k t = respond t.after k (some (walk switch tree))
+requested (Some (Call c)) numbers k t = respond t.after k (some (form_of c numbers))
 
 -- what a line leads to, with its reply in a slice
 pub record Effect : Type 0 where
   pub kept : Kept
-  pub request : Request
+  pub request : Option Request
   pub printed : List ℕ
   pub stops : Bool
 
-abbrev pub effect_in : Answered → List ℕ → Effect
-effect_in r out = record { kept = r.kept; request = r.request; printed = take r.written out; stops = r.stops }
+-- of a line that cannot be read, what was collected before it is left
+abbrev pub effect_in : Kept → Result Asked Unreadable → List ℕ → Effect
+effect_in d (Ok a) out = record { kept = a.kept; request = a.request; printed = []; stops = false }
+effect_in d (Err u) out = record { kept = d; request = None; printed = take u.written out; stops = true }
+
+-- the count of the bytes of its reply: a line that is read has none of its own
+abbrev pub unread_count : Result Asked Unreadable → ℕ
+unread_count (Ok a) = 0
+unread_count (Err u) = u.written
 
 -- the count of the bytes of a line's own reply: a line that asks something of the session has its reply from there
-abbrev pub own_count : Request → ℕ → ℕ
-own_count Nothing written = written
-own_count (Walk switch tree) written = 0
-own_count (Call c) written = 0
+abbrev pub own_count : Option Request → ℕ → ℕ
+own_count None written = written
+own_count (Some q) written = 0
 
 -- a slice holds what it held, but for the first k
 abbrev pub Keeps : ℕ → List ℕ → List ℕ → Type 0
@@ -76,14 +83,14 @@ respond_to d k (Code.Walk switch tree) numbers = respond d k (some (walk switch 
 respond_to d k Code.Clear numbers = respond d k (some clearing)
 
 -- line number k leads to what its form says, whatever the session
-abbrev pub Responds : Kept → List ℕ → List ℕ → ℕ → Code-as-Form → Answered → List ℕ → List ℕ → List ℕ → Type 0
+abbrev pub Responds : Kept → List ℕ → List ℕ → ℕ → Code-as-Form → Result Asked Unreadable → List ℕ → List ℕ → List ℕ → Type 0
 Responds d links ducts k form r links' ducts' out =
-    (s : Session) (numbers : List ℕ) → turn_of s k numbers links' ducts' (effect_in r out) ≡ respond_to (dialogue_in d s links ducts) k form numbers
+    (s : Session) (numbers : List ℕ) → turn_of s k numbers links' ducts' (effect_in d r out) ≡ respond_to (dialogue_in d s links ducts) k form numbers
 
 -- line number k leads to what its bytes say, whatever the session
-abbrev pub Answers : Kept → List ℕ → List ℕ → ℕ → List ℕ → Answered → List ℕ → List ℕ → List ℕ → List ℕ → Type 0
+abbrev pub Answers : Kept → List ℕ → List ℕ → ℕ → List ℕ → Result Asked Unreadable → List ℕ → List ℕ → List ℕ → List ℕ → Type 0
 Answers d links ducts k bytes r numbers links' ducts' out =
-    (s : Session) → turn_of s k numbers links' ducts' (effect_in r out) ≡ turn (dialogue_in d s links ducts) k bytes
+    (s : Session) → turn_of s k numbers links' ducts' (effect_in d r out) ≡ turn (dialogue_in d s links ducts) k bytes
 
 -- what is known between two bytes, with a session, and the links, their ducts, the bytes of the line and what was printed in lists
 abbrev pub reader_in : Code-as-Reader → Session → List ℕ → List ℕ → List ℕ → List ℕ → Reader Dialogue
@@ -94,7 +101,7 @@ abbrev pub Over : Code-as-Reader → Bool → Type 0
 Over r b = (s : Session) (links ducts line output : List ℕ) → b ≡ over (reader_in r s links ducts line output)
 
 -- what is known once a line has what it asks of the session; a line that asks for nothing has its reply
-abbrev pub served : Request → List ℕ → List ℕ → Reader Dialogue → Reader Dialogue
+abbrev pub served : Option Request → List ℕ → List ℕ → Reader Dialogue → Reader Dialogue
 served q numbers own r =
     let t = requested q numbers (pred r.number) (record { after = r.state; printed = own; stops = r.stopped }) in
     record { state = t.after; number = r.number; line = r.line; output = r.output ++ t.printed; stopped = t.stops }

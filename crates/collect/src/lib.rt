@@ -2,11 +2,10 @@
 // reply. The collected links stand at the start of a slice, two numbers each, their ducts in another; a reply is written at the start of a third.
 #![tactic(auto)]
 
-ghost use Rattle.std.specs.Prelude.{◌≡◌, true, false, ◌≤◌, length};
+ghost use Rattle.std.specs.Prelude.{◌≡◌, ◌≤◌, length, take};
 ghost use Rattle.lines.specs.declared.Form.TheVariants as Form·;
 ghost use Rattle.replies.specs.Replies.{unread, reply};
-ghost use Rattle.collect.specs.declared.Request.TheVariants as Request·;
-ghost use Rattle.collect.specs.Answering.{fresh_kept, effect_in, Responds, Answers, own_count, Keeps, Over, Ends, start_reader};
+ghost use Rattle.collect.specs.Answering.{fresh_kept, unread_count, Responds, Answers, own_count, Keeps, Over, Ends, start_reader};
 
 use in_place::Session;
 use lines::Form;
@@ -37,7 +36,7 @@ impl Kept {
 }
 
 // A call that gives another session; of an ear the count of its numbers.
-#[derive(Clone, Copy)]
+#[derive(Clone, Copy, Debug, PartialEq, Eq)]
 pub enum Call {
     Open,
     Ear(u16),
@@ -45,62 +44,34 @@ pub enum Call {
     Clear,
 }
 
-// What a line asks of the session: nothing, the walk of a switch in a tree, or a call.
-#[derive(Clone, Copy)]
+// What a line asks of the session: the walk of a switch in a tree, or a call.
+#[derive(Clone, Copy, Debug, PartialEq, Eq)]
 pub enum Request {
-    Nothing,
     Walk(u16, u16),
     Call(Call),
 }
 
-// What a line leads to: what is collected after it, what it asks of the session, the count of the bytes of its reply, and whether no
-// more is read. A line that asks something of the session has its reply from there.
+// What a line that is read leads to: what is collected after it, and what it asks of the session, from where it has its reply.
 #[derive(Clone, Copy)]
-struct Answered {
+struct Asked {
     kept: Kept,
-    request: Request,
-    written: usize,
-    stops: bool,
+    request: Option<Request>,
 }
 
-// A line that cannot be read: no more is read.
-fn unread(d: Kept, number: u16, out: &mut [u8]) -> Answered
+// A line that cannot be read, after which no more is read: the count of the bytes of its reply.
+#[derive(Clone, Copy)]
+struct Unreadable {
+    written: usize,
+}
+
+// Writes the reply to a line that cannot be read.
+fn unread(number: u16, out: &mut [u8]) -> Unreadable
     requires { 8192 ≤ length out.old }
-    ensures out_after { effect_in result out.new ≡ record { kept = d; request = Request·.Nothing; printed = reply (unread number); stops = true } }
-    ensures keeps { Keeps (own_count result.request result.written) out.old out.new }
+    ensures out_after { take result.written out.new ≡ reply (unread number) }
+    ensures keeps { Keeps result.written out.old out.new }
 {
     let written = replies::write_unread(out, number);
-    let request = Request::Nothing;
-    Answered {
-        kept: d,
-        request,
-        written,
-        stops: true,
-    }
-}
-
-// What a line leads to that prints nothing of its own.
-fn asking(kept: Kept, request: Request) -> Answered
-    ensures { result ≡ record { kept = kept; request = request; written = 0; stops = false } }
-{
-    Answered {
-        kept,
-        request,
-        written: 0,
-        stops: false,
-    }
-}
-
-// Collects a network's numbers.
-fn collect_net(d: Kept, n: u16, root: u16, first: u16, last: u16) -> Answered
-    ensures { result ≡ record { kept = record { n = n; root = root; first = first; last = last; count = d.count }; request = Request·.Nothing; written = 0; stops = false } }
-{
-    let mut kept = d;
-    kept.n = n;
-    kept.root = root;
-    kept.first = first;
-    kept.last = last;
-    asking(kept, Request::Nothing)
+    Unreadable { written }
 }
 
 // Collects a link with its duct; one link too many is unread.
@@ -113,26 +84,32 @@ fn collect_link(
     links: &mut [u16],
     ducts: &mut [u8],
     out: &mut [u8],
-) -> Answered
+) -> Result<Asked, Unreadable>
     requires { (length links.old ≡ 8192) × (length ducts.old ≡ 4096) × (8192 ≤ length out.old) }
     ensures responds { Responds d links.old ducts.old number (Form·.Link a b duct) result links.new ducts.new out.new }
-    ensures keeps { Keeps (own_count result.request result.written) out.old out.new }
+    ensures keeps { Keeps (unread_count result) out.old out.new }
 {
     let count = d.count;
     if Session::MAX_LINKS <= count {
-        return unread(d, number, out);
+        return Err(unread(number, out));
     }
-    let at = count as usize;
+    let at = usize::from(count);
     let i = 2 * at;
     links[i] = a;
     links[i + 1] = b;
     ducts[at] = duct;
-    let mut kept = d;
-    kept.count = count + 1;
-    asking(kept, Request::Nothing)
+    let kept = Kept {
+        count: count + 1,
+        ..d
+    };
+    Ok(Asked {
+        kept,
+        request: None,
+    })
 }
 
 // Does what a form says that was read, but for what it asks of the session.
+#[tactic(auto, unfolding(crate::specs::Dialogue::respond, crate::specs::Answering::form_of, crate::specs::Answering::requested, crate::specs::Answering::respond_to))]
 fn respond(
     d: Kept,
     number: u16,
@@ -140,21 +117,37 @@ fn respond(
     links: &mut [u16],
     ducts: &mut [u8],
     out: &mut [u8],
-) -> Answered
+) -> Result<Asked, Unreadable>
     requires { (length links.old ≡ 8192) × (length ducts.old ≡ 4096) × (8192 ≤ length out.old) }
     ensures responds { Responds d links.old ducts.old number form result links.new ducts.new out.new }
-    ensures keeps { Keeps (own_count result.request result.written) out.old out.new }
+    ensures keeps { Keeps (unread_count result) out.old out.new }
 {
-    match form {
-        Form::Net(n, root, first, last) => collect_net(d, n, root, first, last),
-        Form::Link(a, b, duct) => collect_link(d, number, a, b, duct, links, ducts, out),
-        Form::Open => asking(d, Request::Call(Call::Open)),
-        Form::Ear(count) => asking(d, Request::Call(Call::Ear(count))),
-        Form::Close => asking(d, Request::Call(Call::Close)),
-        Form::Walk(switch, tree) => asking(d, Request::Walk(switch, tree)),
-        Form::Clear => asking(d, Request::Call(Call::Clear)),
-        Form::Unread => unread(d, number, out),
-    }
+    let request = match form {
+        Form::Net(n, root, first, last) => {
+            let kept = Kept {
+                n,
+                root,
+                first,
+                last,
+                ..d
+            };
+            return Ok(Asked {
+                kept,
+                request: None,
+            });
+        }
+        Form::Link(a, b, duct) => return collect_link(d, number, a, b, duct, links, ducts, out),
+        Form::Open => Request::Call(Call::Open),
+        Form::Ear(count) => Request::Call(Call::Ear(count)),
+        Form::Close => Request::Call(Call::Close),
+        Form::Walk(switch, tree) => Request::Walk(switch, tree),
+        Form::Clear => Request::Call(Call::Clear),
+        Form::Unread => return Err(unread(number, out)),
+    };
+    Ok(Asked {
+        kept: d,
+        request: Some(request),
+    })
 }
 
 // Line number `number` with these bytes: what is collected after it, what it asks of the session, and else its reply.
@@ -166,15 +159,14 @@ fn answer(
     links: &mut [u16],
     ducts: &mut [u8],
     out: &mut [u8],
-) -> Answered
+) -> Result<Asked, Unreadable>
     requires { (3072 ≤ length numbers.old) × (length links.old ≡ 8192) × (length ducts.old ≡ 4096) × (8192 ≤ length out.old) }
     ensures answers { Answers d links.old ducts.old number bytes.now result numbers.new links.new ducts.new out.new }
-    ensures keeps { Keeps (own_count result.request result.written) out.old out.new }
+    ensures keeps { Keeps (unread_count result) out.old out.new }
     ensures keeps_2 { Keeps 3072 numbers.old numbers.new }
 {
     let line = lines::read_line(number, bytes, numbers);
-    let form = line.form;
-    respond(d, number, form, links, ducts, out)
+    respond(d, number, line.form, links, ducts, out)
 }
 
 // What is known between two bytes of an input: what is collected, the number of the line that comes, the count of its bytes so far,
@@ -192,9 +184,8 @@ impl Reader {
     pub fn start() -> Self
         ensures { result ≡ start_reader }
     {
-        let kept = Kept::fresh();
         Reader {
-            kept,
+            kept: Kept::fresh(),
             number: 1,
             held: 0,
             stopped: false,
@@ -206,30 +197,15 @@ impl Reader {
 pub fn over(r: Reader) -> bool
     ensures { Over r result }
 {
-    if r.stopped {
-        return true;
-    }
-    65535 < r.number
+    r.stopped || 65535 < r.number
 }
 
 // What is known after a line, what the line asks of the session, and the count of the bytes of its own reply.
 #[derive(Clone, Copy)]
 pub struct Ending {
     pub reader: Reader,
-    pub request: Request,
+    pub request: Option<Request>,
     pub written: usize,
-}
-
-// No more is read: nothing changes, and there is no reply.
-fn quiet(reader: Reader) -> Ending
-    ensures { result ≡ record { reader = reader; request = Request·.Nothing; written = 0 } }
-{
-    let request = Request::Nothing;
-    Ending {
-        reader,
-        request,
-        written: 0,
-    }
 }
 
 // The line that is held ends: what is known after it, what it asks of the session, and else its reply.
@@ -247,30 +223,36 @@ pub fn end_line(
     ensures keeps_2 { Keeps 3072 numbers.old numbers.new }
 {
     if over(r) {
-        return quiet(r);
+        return Ending {
+            reader: r,
+            request: None,
+            written: 0,
+        };
     }
-    let held = rows::least(r.held, line.len());
-    let d = r.kept;
-    let answered = answer(
-        d,
-        r.number as u16,
-        &line[..held],
-        numbers,
-        links,
-        ducts,
-        out,
-    );
-    let kept = answered.kept;
-    let request = answered.request;
-    let reader = Reader {
-        kept,
+    let held = r.held.min(line.len());
+    let bytes = &line[..held];
+    let answered = answer(r.kept, r.number as u16, bytes, numbers, links, ducts, out);
+    let next = Reader {
         number: r.number + 1,
         held: 0,
-        stopped: answered.stops,
+        ..r
     };
-    Ending {
-        reader,
-        request,
-        written: answered.written,
+    match answered {
+        Ok(asked) => Ending {
+            reader: Reader {
+                kept: asked.kept,
+                ..next
+            },
+            request: asked.request,
+            written: 0,
+        },
+        Err(unread) => Ending {
+            reader: Reader {
+                stopped: true,
+                ..next
+            },
+            request: None,
+            written: unread.written,
+        },
     }
 }

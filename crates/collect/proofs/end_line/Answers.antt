@@ -1,28 +1,23 @@
-use Prim.Native.Nat.{◌≤◌}
-use mathlib.Core.Path.{refl}
-use native.Mathlib.Omega.{arith}
-use Rattle.rows.proofs.Prefixes.{least_length}
-use Rattle.in_place.specs.Session.{empty_session}
-use Rattle.collect.proofs.LineEnds.{over_number, end_quiet, end_turn}
+use Rattle.std.proofs.Common.{[], Err, refl, arith}
+use Rattle.collect.specs.Answering.{effect_in}
+use Rattle.collect.proofs.LineEnds.{over_not, end_quiet, end_turn}
 use Rattle.collect.proofs.end_line.Goals as goal
 
-pub returns-then-over : goal.returns-then-over
-returns-then-over c = record { ends = end_quiet c.args.r c.args.links.now c.args.ducts.now c.args.line.now c.over.ensures _ c.args.out.now c.quiet.result c.if-over.true c.quiet.ensures; keeps = refl; keeps_2 = refl }
+pub returns-then-over-clause-ends : goal.returns-then-over-clause-ends
+returns-then-over-clause-ends c = end_quiet c.args.r c.args.links.now c.args.ducts.now c.args.line.now c.over.ensures _ c.args.out.now c.if-over.true
 
 pub overflow_cast-r : goal.overflow_cast-r
-overflow_cast-r c =
-    let number_fits : c.args.r.number ≤ 65535 = over_number c.args.r empty_session c.over.ensures c.if-over.false in
-    omega (arith, number_fits)
+overflow_cast-r c = omega (arith, (over_not c.args.r c.over.ensures c.if-over.false).1)
 
-pub slice_bounds-answer-end : goal.slice_bounds-answer-end
-slice_bounds-answer-end c =
-    least_length c.args.r.held c.args.line.now c.least-held.ensures
+pub overflow_add-next : goal.overflow_add-next
+overflow_add-next c = omega (arith, (over_not c.args.r c.over.ensures c.if-over.false).1)
 
-pub overflow_add-reader : goal.overflow_add-reader
-overflow_add-reader c =
-    let number_fits : c.args.r.number ≤ 65535 = over_number c.args.r empty_session c.over.ensures c.if-over.false in
-    omega (arith, number_fits)
+pub returns-in-Ok-clause-ends : goal.returns-in-Ok-clause-ends
+returns-in-Ok-clause-ends c =
+    let running = (over_not c.args.r c.over.ensures c.if-over.false).0 in
+    let asked = c.in-Ok.asked in
+    end_turn c.args.r c.args.links.now c.args.ducts.now c.args.line.now c.over.ensures _ _ _ c.answer-answered.new.out (record { kept = asked.kept; request = asked.request; printed = []; stops = c.args.r.stopped }) 0 _ c.if-over.false c.min-held.ensures refl (λ s. rw running (c.in-Ok.ensures.answers s))
 
-pub returns : goal.returns
-returns c =
-    let ends = end_turn c.args.r c.args.links.now c.args.ducts.now c.args.line.now c.over.ensures _ _ _ _ c.answer-answered.result c.if-over.false c.least-held.ensures c.answer-answered.ensures.answers in record { ends = ends; keeps = c.answer-answered.ensures.keeps; keeps_2 = c.answer-answered.ensures.keeps_2 }
+pub returns-in-Err-clause-ends : goal.returns-in-Err-clause-ends
+returns-in-Err-clause-ends c =
+    end_turn c.args.r c.args.links.now c.args.ducts.now c.args.line.now c.over.ensures _ _ _ _ (effect_in c.args.r.kept (Err c.in-Err.unread) _) c.in-Err.unread.written _ c.if-over.false c.min-held.ensures refl c.in-Err.ensures.answers
