@@ -1,8 +1,9 @@
 -- Laws of a number written digit by digit, from the first: after the powers of ten so far stand the digits of the number's front.
 -- A number is its front and its last digit.
-use Rattle.std.proofs.Common.{◌≡◌, ℕ, zero, suc, ◌+◌, ◌-◌, ◌/◌, ◌%◌, ◌^◌, ◌<◌, ◌≤◌, List, [], ◌∷◌, ◌++◌, length, get_or, set, refl, sym, ⊎_elim, arith, length-append}
-use Rattle.std.proofs.Math.Nat.{pow-suc, one-le-pow, div-div-eq-div-mul, div-eq_of_lt}
-use Rattle.std.proofs.lemmas.Nat.{le-div}
+use Rattle.std.proofs.Common.{◌≡◌, ℕ, zero, suc, ◌+◌, ◌-◌, ◌/◌, ◌%◌, ◌^◌, ◌*◌, ◌<◌, ◌≤◌, List, [], ◌∷◌, ◌++◌, length, get_or, set, refl, sym, ◌∙◌, ⊎_elim, arith, length-append, mod-lt}
+use Rattle.std.proofs.Math.Nat.{pow-suc, pow-succ', one-le-pow, div-div-eq-div-mul, div-eq_of_lt}
+use Rattle.std.proofs.lemmas.Nat.{le-div, div-mul-add, mod-mul-add}
+use Rattle.std.proofs.Math.Arith.{mod-mul}
 use Rattle.std.proofs.lemmas.Bool.{cases_lt}
 use Rattle.lines.specs.Writing.{decimal}
 use Rattle.lines.proofs.Decimals.{decimal_digit, decimal_tenth, decimal_some}
@@ -60,31 +61,61 @@ power_at (suc (suc zero)) h = refl
 power_at (suc (suc (suc zero))) h = refl
 power_at (suc (suc (suc (suc j)))) h = absurd (omega arith)
 
-module _ (at n : ℕ) (held : List ℕ) (j next : ℕ) (out : List ℕ) (fits : at + length (decimal n) ≤ length held) (same : length out ≡ length held) (below : j ≤ 4)
-    (first : Wrote at (leading (n / 10 ^ (5 - j))) held next out) where
+-- what is left of a number after the digits of its front: its next digit and what is left after that
+rest_split : (n k : ℕ) → n % 10 ^ suc k ≡ (n / 10 ^ k % 10) * 10 ^ k + n % 10 ^ k
+rest_split n k = rw pow-succ' (mod-mul n {m = 10} {c = 10 ^ k} (omega arith) (one-le-pow k 10 (omega arith)))
+
+rest_digit : (n k : ℕ) → n % 10 ^ suc k / 10 ^ k ≡ n / 10 ^ k % 10
+rest_digit n k = rw (rest_split n k) (div-mul-add (n / 10 ^ k % 10) (10 ^ k) (n % 10 ^ k) (mod-lt n (one-le-pow k 10 (omega arith))))
+
+rest_next : (n k : ℕ) → n % 10 ^ suc k % 10 ^ k ≡ n % 10 ^ k
+rest_next n k = rw (rest_split n k) (mod-mul-add (n / 10 ^ k % 10) (10 ^ k) (n % 10 ^ k) (mod-lt n (one-le-pow k 10 (omega arith))))
+
+-- after so many powers of ten: the digits of the front are written, and what is left of the number is known
+pub record Begun (at n : ℕ) (held : List ℕ) (j rest next : ℕ) (out : List ℕ) : Type 0 where
+  pub left : rest ≡ n % 10 ^ (5 - j)
+  pub wrote : Wrote at (leading (n / 10 ^ (5 - j))) held next out
+
+module _ (at n : ℕ) (held : List ℕ) (j rest next : ℕ) (out : List ℕ) (fits : at + length (decimal n) ≤ length held) (same : length out ≡ length held) (below : j ≤ 4) (first : Begun at n held j rest next out) where
+  powers : 5 - j ≡ suc (4 - j)
+  powers = omega arith
+
   begun : Wrote at (leading (n / 10 ^ suc (4 - j))) held next out
-  begun = let e : 5 - j ≡ suc (4 - j) = omega arith in rw e at first
+  begun = rw powers at first.wrote
+
+  left : rest ≡ n % 10 ^ suc (4 - j)
+  left = rw powers at first.left
 
   pub room : next < length out
   room = let w = begun in omega (arith, w.ended, front_room n (4 - j))
 
-  -- the digit for a power up to the number
-  pub digit_more : (power : ℕ) → power ≡ 10 ^ (4 - j) → power ≤ n → Wrote at (leading (n / 10 ^ (5 - (j + 1)))) held (next + 1) (set out next (48 + n / power % 10))
-  digit_more power e h =
-      let k : 5 - (j + 1) ≡ 4 - j = omega arith in
-      let g : 10 ^ (4 - j) ≤ n = omega arith in
-      rw (k, e, ← front_more n (4 - j) (le-div 1 n (10 ^ (4 - j)) (one-le-pow (4 - j) 10 (omega arith)) (omega arith))) (wrote_byte at _ held next out (omega arith) begun _ (omega (arith, room)))
+  module _ (power : ℕ) (e : power ≡ 10 ^ (4 - j)) where
+    digit : rest / power ≡ n / power % 10
+    digit = rw (left, e) (rest_digit n (4 - j))
 
-  -- none for a greater one
-  pub digit_none : (power : ℕ) → power ≡ 10 ^ (4 - j) → n < power → Wrote at (leading (n / 10 ^ (5 - (j + 1)))) held next out
-  digit_none power e h =
-      let k : 5 - (j + 1) ≡ 4 - j = omega arith in
-      let g : n < 10 ^ (4 - j) = omega arith in
-      let z : n / 10 ^ (4 - j) ≡ 0 = div-eq_of_lt g in
-      rw (k, z) (rw (front n (4 - j), z) at begun)
+    -- the digit for a power up to the number
+    pub digit_more : power ≤ n → Begun at n held (j + 1) (rest % power) (next + 1) (set out next (48 + rest / power))
+    digit_more h =
+        let k : 5 - (j + 1) ≡ 4 - j = omega arith in
+        let g : 10 ^ (4 - j) ≤ n = omega arith in
+        record {
+          left = rw (k, left, e) (rest_next n (4 - j));
+          wrote = rw (k, digit, e, ← front_more n (4 - j) (le-div 1 n (10 ^ (4 - j)) (one-le-pow (4 - j) 10 (omega arith)) (omega arith))) (wrote_byte at _ held next out (omega arith) begun _ (omega (arith, room)));
+        }
+
+    -- none for a greater one
+    pub digit_none : n < power → Begun at n held (j + 1) rest next out
+    digit_none h =
+        let k : 5 - (j + 1) ≡ 4 - j = omega arith in
+        let g : n < 10 ^ (4 - j) = omega arith in
+        let z : n / 10 ^ (4 - j) ≡ 0 = div-eq_of_lt g in
+        record {
+          left = rw k (left ∙ rest_split n (4 - j) ∙ rw z (omega arith));
+          wrote = rw (k, z) (rw (front n (4 - j), z) at begun);
+        }
 
   -- the last digit
-  pub digit_last : j ≡ 4 → Wrote at (decimal n) held (next + 1) (set out next (48 + n % 10))
+  pub digit_last : j ≡ 4 → Wrote at (decimal n) held (next + 1) (set out next (48 + rest))
   digit_last e =
       let k : 5 - j ≡ 1 = omega arith in
-      rw (← leading_last n) (wrote_byte at _ held next out (omega arith) (rw k at first) _ (omega (arith, room)))
+      rw (first.left, k, ← leading_last n) (wrote_byte at _ held next out (omega arith) (rw k at first.wrote) _ (omega (arith, room)))

@@ -25,13 +25,15 @@ fn put_number(out: &mut [u8], at: usize, n: u16) -> usize
     ensures { Wrote at (decimal n) out.old result out.new }
 {
     let mut next = at;
+    let mut rest = n;
     for power in [10000, 1000, 100, 10] {
         if power <= n {
-            out[next] = b'0' + (n / power % 10) as u8;
+            out[next] = b'0' + (rest / power) as u8;
             next += 1;
+            rest %= power;
         }
     }
-    out[next] = b'0' + (n % 10) as u8;
+    out[next] = b'0' + rest as u8;
     next + 1
 }
 

@@ -1,8 +1,6 @@
-use Rattle.std.proofs.Common.{◌-◌, ◌/◌, ◌^◌}
-use Rattle.replies.specs.Replies.{Wrote}
-use Rattle.replies.proofs.Digits.{leading}
+use Rattle.replies.proofs.Digits.{Begun}
 use Rattle.replies.proofs.put_number.Given as goal
 
 -- the digits for the powers so far
 abbrev pub invariant-loop-power : goal.invariant-loop-power
-invariant-loop-power l = Wrote l.at (leading (l.n / 10 ^ (5 - l.power-index))) l.initial.out l.next l.out
+invariant-loop-power l = Begun l.at l.n l.initial.out l.power-index l.rest l.next l.out
