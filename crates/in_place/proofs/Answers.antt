@@ -1,12 +1,15 @@
 -- What a call leaves by its answer and by the session's stage, and the link table of a session as the code lends it.
 -- A refusal leaves the session that was given.
-use mathlib.Core.Path.{◌≡◌, sym, ap, ◌∙◌, subst}
+use mathlib.Core.Path.{◌≡◌, sym, ap, ◌∙◌}
 use mathlib.Core.Bool.{Bool, true, false, cond}
 use mathlib.Core.List.{List, [], ◌∷◌}
-use Prim.Native.Nat.{ℕ, min, ◌*◌, ◌≤◌}
+use Prim.Native.Nat.{ℕ, ◌*◌, ◌≤◌}
 use native.Mathlib.Omega.{arith}
 use lib.Dec.{eqb}
-use lib.ListN.{length, take, length-take}
+use lib.ListN.{length, take}
+use Rattle.std.specs.Prelude.{Result, Ok, Err}
+use Rattle.refusals.specs.declared.Refusal.{Refusal}
+use Rattle.refusals.specs.Refusals.{number, place, answer_of}
 use Rattle.mondschein.specs.Network.{Network, size, former, latter, joins, link_of}
 use Rattle.mondschein.specs.Judge.{Answer, given, refused, verdict, closing}
 use Rattle.mondschein.specs.Order.{shortest}
@@ -14,9 +17,7 @@ use Rattle.mondschein.specs.Outcome.{granted, settle}
 use Rattle.mondschein.specs.EmptyEar.{left_over, is_empty, entering}
 use Rattle.mondschein.proofs.Passed.{given_passed}
 use Rattle.network.specs.Load.{network_of, table_of}
-use Rattle.network.specs.Index.{Indexed}
 use Rattle.rows.specs.Rows.{marked}
-use Rattle.rows.proofs.Prefixes.{least_take}
 use Rattle.left_over.specs.LeftOver.{used_after_empty}
 use Rattle.thirds.specs.Tree3.{tree3_of}
 use Rattle.thirds.proofs.Tree3.{tree3_named}
@@ -50,54 +51,45 @@ module _ {A : Type 0} (a b c : A) {stage : Stage} where
   unfolding by_stage
   on_closed_lem q = ap (λ (t : Stage). by_stage t a b c) q
 
--- the link table as the code lends it: the first r numbers, two for each of m, and no more than there are
-module _ (links : List ℕ) (m : ℕ) {r : ℕ} (q : r ≡ min (2 * m) (length links)) where
-  pub table_whole : r ≡ length (take r links)
-  table_whole = omega (arith, length-take r links)
+-- by what a part of the call answered
+module _ (s next : Session) {A : Type 0} (values : A → List ℕ) {r : Result A Refusal} {a : Answer} (q : answer_of values r ≡ a) where
+  pub refused_as : {e : Refusal} → r ≡ Err e → record { answer = refused (number e) (place e); after = s } ≡ settle s next a
+  refused_as p = after_refused s next (sym q ∙ ap (answer_of values) p)
 
-  table_take : take r links ≡ take (2 * m) links
-  table_take = least_take (2 * m) links q
+  pub given_as : {x : A} {after : Session} → r ≡ Ok x → after ≡ next → record { answer = given (values x); after = after } ≡ settle s next a
+  given_as p h = after_given s next (sym q ∙ ap (answer_of values) p) h
 
-  -- its index is that of the links that are stored
-  pub index_lent : (index : List ℕ) → Indexed (table_of (take (2 * m) links)) index → Indexed (table_of (take r links)) index
-  index_lent index i = subst (λ (l : List ℕ). Indexed (table_of l) index) (sym table_take) i
-
-  pub index_made : (index : List ℕ) → Indexed (table_of (take r links)) index → Indexed (table_of (take (2 * m) links)) index
-  index_made index i = subst (λ (l : List ℕ). Indexed (table_of l) index) table_take i
-
-module _ (s : Session) {r : ℕ} (q : r ≡ min (2 * s.m) (length s.links)) where
-  lent : take r s.links ≡ take (2 * s.m) s.links
-  lent = table_take s.links s.m q
-
+-- the link table as the code lends it: the links that are stored
+module _ (s : Session) {table : List ℕ} (q : table ≡ take (2 * s.m) s.links) where
   -- the judge asks the whole network
-  pub verdict_lent : (e : List ℕ) → verdict (network_of s.n (take r s.links) s.root s.first s.last) (marked s.births) (marked s.used) (eqb s.born 0) e
+  pub verdict_lent : (e : List ℕ) → verdict (network_of s.n table s.root s.first s.last) (marked s.births) (marked s.used) (eqb s.born 0) e
       ≡ verdict (network_in s) (marked s.births) (marked s.used) (eqb s.born 0) e
-  verdict_lent e = ap (λ (l : List ℕ). verdict (network_of s.n l s.root s.first s.last) (marked s.births) (marked s.used) (eqb s.born 0) e) lent
+  verdict_lent e = ap (λ (l : List ℕ). verdict (network_of s.n l s.root s.first s.last) (marked s.births) (marked s.used) (eqb s.born 0) e) q
 
   -- an ear changes the tables by the links alone
-  pub after_lent : (e : List ℕ) → after_ear (table_of (take r s.links)) e (tables_in s) ≡ after_ear (network_in s) e (tables_in s)
+  pub after_lent : (e : List ℕ) → after_ear (table_of table) e (tables_in s) ≡ after_ear (network_in s) e (tables_in s)
   unfolding after_ear used_after link_of joins former latter size
-  after_lent e = ap (λ (l : List ℕ). after_ear (table_of l) e (tables_in s)) lent
+  after_lent e = ap (λ (l : List ℕ). after_ear (table_of l) e (tables_in s)) q
 
   -- and so does an empty one
-  empty_lent : used_after_empty (table_of (take r s.links)) s.births s.used ≡ used_after_empty (network_in s) s.births s.used
+  empty_lent : used_after_empty (table_of table) s.births s.used ≡ used_after_empty (network_in s) s.births s.used
   unfolding used_after_empty left_over former latter size
-  empty_lent = ap (λ (l : List ℕ). used_after_empty (table_of l) s.births s.used) lent
+  empty_lent = ap (λ (l : List ℕ). used_after_empty (table_of l) s.births s.used) q
 
-  pub after_empty : (e : List ℕ) {after : List ℕ} → is_empty (eqb s.born 0) e ≡ true → after ≡ used_after_empty (table_of (take r s.links)) s.births s.used
+  pub after_empty : (e : List ℕ) {after : List ℕ} → is_empty (eqb s.born 0) e ≡ true → after ≡ used_after_empty (table_of table) s.births s.used
       → tables_of after s.longs s.births s.born s.order s.tree1 s.tree2 ≡ after_offer (network_in s) e (tables_in s)
   unfolding after_offer
   after_empty e t p = rw t (ap (λ (u : List ℕ). tables_of u s.longs s.births s.born s.order s.tree1 s.tree2) (p ∙ empty_lent))
 
   -- closing asks of the links which of them are used
-  pub closing_lent : closing (table_of (take r s.links)) (marked s.used) ≡ closing (network_in s) (marked s.used)
+  pub closing_lent : closing (table_of table) (marked s.used) ≡ closing (network_in s) (marked s.used)
   unfolding closing size
-  closing_lent = ap (λ (l : List ℕ). closing (table_of l) (marked s.used)) lent
+  closing_lent = ap (λ (l : List ℕ). closing (table_of l) (marked s.used)) q
 
   -- tree 3 does not ask for first
-  pub tree3_lent : tree3_of shortest (network_of s.n (take r s.links) s.root 0 s.last) s.births s.tree3 ≡ third_in shortest s
+  pub tree3_lent : tree3_of shortest (network_of s.n table s.root 0 s.last) s.births s.tree3 ≡ third_in shortest s
   tree3_lent =
-      ap (λ (l : List ℕ). tree3_of shortest (network_of s.n l s.root 0 s.last) s.births s.tree3) lent
+      ap (λ (l : List ℕ). tree3_of shortest (network_of s.n l s.root 0 s.last) s.births s.tree3) q
       ∙ tree3_named s.n (take (2 * s.m) s.links) s.root 0 s.first s.last s.births s.tree3
 
 -- an empty ear is given 0, and any other is judged

@@ -1,59 +1,45 @@
 -- The calls that only read a session, parent and walk, by its stage and by check 17: what each answers, and the slice that a walk
 -- leaves. A refusal leaves the slice as it was.
-use mathlib.Core.Path.{◌≡◌, refl, sym, ap, ◌∙◌}
-use mathlib.Core.Logic.{◌≢◌}
-use mathlib.Core.Bool.{true, false}
-use mathlib.Core.List.{List, [], ◌∷◌}
-use Prim.Native.Nat.{ℕ, zero, suc, pred, ◌-◌}
-use native.Mathlib.Omega.{arith}
-use lib.ListN.{get_or}
-use borrow.Author.Tests.{eq-eqb, ne_eqb}
+use Rattle.std.proofs.Common.{◌≡◌, ℕ, pred, Bool, true, false, List, [], ◌∷◌, refl, sym, ap, ◌∙◌}
+use Rattle.std.specs.Prelude.{Result, Ok, Err, ⊤}
+use Rattle.std.proofs.lemmas.Bool.{false≢true, true≢false}
 use Rattle.mondschein.specs.Network.{at}
 use Rattle.mondschein.specs.Judge.{Answer, given, refused, check}
 use Rattle.mondschein.specs.Order.{walk_by}
 use Rattle.mondschein.specs.Outcome.{granted, settle, counted, unknown}
-use Rattle.mondschein.specs.Routes.{Tree}
 use Rattle.mondschein.proofs.Checks.{check_pass, check_fail}
+use Rattle.refusals.specs.declared.Refusal.{Refusal}
+use Rattle.refusals.specs.Refusals.{number, place}
 use Rattle.network.specs.Load.{network_of}
+use Rattle.closing.specs.Closing.{close_answer}
 use Rattle.walks.specs.Walks.{walk_into}
+use Rattle.in_place.specs.declared.Stage.{Stage}
 use Rattle.in_place.specs.declared.Stage.TheVariants.{Empty, Open, Closed}
 use Rattle.in_place.specs.declared.Session.{Session}
 use Rattle.in_place.specs.Session.{network_in, by_stage}
 use Rattle.in_place.specs.Queries.{tree_in, walk_in, parent_by, walked_by}
-use Rattle.in_place.proofs.Answers.{on_empty_lem, on_open_lem, on_closed_lem}
+use Rattle.in_place.proofs.Answers.{on_closed_lem}
 
--- the row of a tree by its number
-module _ (s : Session) (t : ℕ) where
-  pub tree_1 : t ≡ 1 → s.tree1 ≡ tree_in s t
-  unfolding tree_in
-  tree_1 q = rw (eq-eqb t 1 q)
+answers_given : Answer → Bool
+answers_given (given vs) = true
+answers_given (refused num place) = false
 
-  pub tree_2 : t ≢ 1 → t ≡ 2 → s.tree2 ≡ tree_in s t
-  unfolding tree_in
-  tree_2 d q = rw (ne_eqb t 1 d, eq-eqb t 2 q)
+-- what only a closed session gives, by what it is asked first
+module _ {r : Result ⊤ Refusal} where
+  pub stage_refused : (stage : Stage) → close_answer r ≡ by_stage stage (refused 19 0) (refused 21 0) (given []) → {e : Refusal} → r ≡ Err e
+      → (a : Answer) → by_stage stage (refused 19 0) (refused 21 0) a ≡ refused (number e) (place e)
+  unfolding by_stage answers_given
+  stage_refused Empty q p a = sym q ∙ ap close_answer p
+  stage_refused Open q p a = sym q ∙ ap close_answer p
+  stage_refused Closed q p a = absurd (true≢false (ap answers_given (sym q ∙ ap close_answer p)))
 
-  pub tree_3 : t ≢ 1 → t ≢ 2 → s.tree3 ≡ tree_in s t
-  unfolding tree_in
-  tree_3 d e = rw (ne_eqb t 1 d, ne_eqb t 2 e)
-
--- the rows of the three tables, of which tree t is row t - 1
-pub row_of_tree : (s : Session) (t : ℕ) → Tree t → get_or (s.tree1 ∷ s.tree2 ∷ s.tree3 ∷ []) (t - 1) [] ≡ tree_in s t
-unfolding tree_in
-row_of_tree s zero h = absurd (omega arith)
-row_of_tree s (suc zero) h = refl
-row_of_tree s (suc (suc zero)) h = refl
-row_of_tree s (suc (suc (suc zero))) h = refl
-row_of_tree s (suc (suc (suc (suc t)))) h = absurd (omega arith)
+  pub stage_closed : (stage : Stage) → close_answer r ≡ by_stage stage (refused 19 0) (refused 21 0) (given []) → {u : ⊤} → r ≡ Ok u → stage ≡ Closed
+  unfolding by_stage answers_given
+  stage_closed Empty q p = absurd (false≢true (ap answers_given (sym q ∙ ap close_answer p)))
+  stage_closed Open q p = absurd (false≢true (ap answers_given (sym q ∙ ap close_answer p)))
+  stage_closed Closed q p = refl
 
 module _ (s : Session) (v t : ℕ) where
-  pub parent_empty : s.stage ≡ Empty → refused 19 0 ≡ parent_by s v t
-  unfolding parent_by
-  parent_empty q = sym (on_empty_lem _ _ _ q)
-
-  pub parent_open : s.stage ≡ Open → refused 21 0 ≡ parent_by s v t
-  unfolding parent_by
-  parent_open q = sym (on_open_lem _ _ _ q)
-
   pub parent_unknown : s.stage ≡ Closed → unknown (network_of s.n [] 0 0 0) v t 0 ≡ true → refused 17 0 ≡ parent_by s v t
   unfolding parent_by unknown
   parent_unknown q u = sym (on_closed_lem _ _ _ q ∙ check_fail 17 _ _ u)
@@ -64,17 +50,11 @@ module _ (s : Session) (v t : ℕ) where
 
 module _ (s : Session) (v t : ℕ) (out : List ℕ) where
   -- a refusal leaves the slice
-  refuses : {num : ℕ}
-      → by_stage s.stage (refused 19 0) (refused 21 0) (check 17 1 (unknown (network_in s) v t) (counted (walk_in s t v) out)) ≡ refused num 0
-      → record { answer = refused num 0; after = out } ≡ walked_by s v t out
+  pub refuses : {num place : ℕ}
+      → by_stage s.stage (refused 19 0) (refused 21 0) (check 17 1 (unknown (network_in s) v t) (counted (walk_in s t v) out)) ≡ refused num place
+      → record { answer = refused num place; after = out } ≡ walked_by s v t out
   unfolding walked_by settle granted
   refuses e = sym (ap (settle out _) e)
-
-  pub walk_empty : s.stage ≡ Empty → record { answer = refused 19 0; after = out } ≡ walked_by s v t out
-  walk_empty q = refuses (on_empty_lem _ _ _ q)
-
-  pub walk_open : s.stage ≡ Open → record { answer = refused 21 0; after = out } ≡ walked_by s v t out
-  walk_open q = refuses (on_open_lem _ _ _ q)
 
   pub walk_unknown : s.stage ≡ Closed → unknown (network_of s.n [] 0 0 0) v t 0 ≡ true → record { answer = refused 17 0; after = out } ≡ walked_by s v t out
   unfolding unknown

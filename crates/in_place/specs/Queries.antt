@@ -9,8 +9,11 @@ use Rattle.in_place.specs.declared.Session.{Session}
 use Rattle.in_place.specs.Session.{network_in, by_stage}
 
 -- the row of tree t, 1 to 3
+abbrev pub row_of : List ℕ → List ℕ → List ℕ → ℕ → List ℕ
+row_of tree1 tree2 tree3 t = cond (eqb t 1) tree1 (cond (eqb t 2) tree2 tree3)
+
 unfoldable pub tree_in : Session → ℕ → List ℕ
-tree_in s t = cond (eqb t 1) s.tree1 (cond (eqb t 2) s.tree2 s.tree3)
+tree_in s t = row_of s.tree1 s.tree2 s.tree3 t
 
 -- the walk of v by the row of tree t: N - 1 links are enough
 unfoldable pub walk_in : Session → ℕ → ℕ → List ℕ

@@ -2,23 +2,38 @@
 // An index of the links may be lent beside them; a slice of another length than an index means that there is none.
 #![tactic(auto)]
 
-ghost use Rattle.std.specs.Prelude.{◌≡◌, eqb, length};
+ghost use Rattle.std.specs.Prelude.{◌≡◌, [], ◌*◌, eqb, length, take};
+ghost use Rattle.mondschein.specs.Judge.{given, refused};
 ghost use Rattle.mondschein.specs.EmptyEar.{is_empty};
-ghost use Rattle.shape.specs.declared.Ear.TheVariants as Ear·;
-ghost use Rattle.closing.specs.declared.Close.TheVariants as Close·;
-ghost use Rattle.in_place.specs.Session.{empty_session};
-ghost use Rattle.in_place.specs.InPlace.{empty_state, closed_state, SizedForThird, IndexedIn, JudgesOpen, OffersOpen, OffersIn, ClosesOpen, ClosesIn, ParentIn, WalksIn};
+ghost use Rattle.mondschein.specs.Order.{shortest};
+ghost use Rattle.judge.specs.Ear.{ear_answer};
+ghost use Rattle.closing.specs.Closing.{close_answer};
+ghost use Rattle.walks.specs.Walks.{parent_answer, walk_answer};
+ghost use Rattle.in_place.specs.Session.{empty_session, by_stage, offered_by, closed_by};
+ghost use Rattle.in_place.specs.Queries.{row_of, parent_by, walked_by};
+ghost use Rattle.in_place.specs.InPlace.{empty_state, state_in, with_state, SizedForThird, IndexedIn, JudgesOpen, OffersOpen, OffersIn, ClosesOpen, ClosesIn, ParentIn, WalksIn};
 
-use closing::Close;
-use judge::Ear;
-use network::{Load, MAX_LINKS, MAX_SWITCHES};
-use walks::{Parent, Walk};
+use network::{MAX_LINKS, MAX_SWITCHES};
+use refusals::Refusal;
 
-#[derive(Clone, Copy)]
+#[derive(Clone, Copy, Debug, PartialEq, Eq)]
 pub enum Stage {
     Empty,
     Open,
     Closed,
+}
+
+impl Stage {
+    // What only a closed session gives: 19 on an empty one, 21 on an open one.
+    pub fn require_closed(self) -> Result<(), Refusal>
+        ensures { close_answer result ≡ by_stage self (refused 19 0) (refused 21 0) (given []) }
+    {
+        match self {
+            Stage::Empty => Err(Refusal::SessionEmpty),
+            Stage::Open => Err(Refusal::SessionOpen),
+            Stage::Closed => Ok(()),
+        }
+    }
 }
 
 // The network (its table flat, as lent) with the ducts of its links, used links (1), the count of long ears, births by long ear (0 unborn), the order with its
@@ -108,37 +123,16 @@ impl State {
     }
 }
 
-// What load answers, and the state after it.
-#[derive(Clone, Copy)]
-pub struct LoadedIn {
-    pub answer: Load,
-    pub state: State,
-}
-
-// What an ear is answered, and the state after it.
-#[derive(Clone, Copy)]
-pub struct OfferedIn {
-    pub answer: Ear,
-    pub state: State,
-}
-
-// What close answers, and the state after it.
-#[derive(Clone, Copy)]
-pub struct ClosedIn {
-    pub answer: Close,
-    pub state: State,
-}
-
-fn ear_refused(number: u8, place: u16, state: State) -> OfferedIn
-    ensures { result ≡ record { answer = Ear·.Refused number place; state = state } }
+// The links that are stored: the first 2 M numbers of the table, and no more than there are.
+pub fn stored(m: u16, links: &[u16]) -> &[u16]
+    ensures { result.now ≡ take (2 * m) links.now }
 {
-    let answer = Ear::Refused(number, place);
-    OfferedIn { answer, state }
+    rows::prefix(links, 2 * (m as usize))
 }
 
 // Checks 7 to 16, and the ear written into the tables where they are clear.
 fn ear_open(
-    st: State,
+    st: &mut State,
     links: &[u16],
     index: &[u16],
     used: &mut [u8],
@@ -147,51 +141,33 @@ fn ear_open(
     tree1: &mut [u16],
     tree2: &mut [u16],
     ear: &[u16],
-) -> OfferedIn
-    requires { (length order.old ≡ 1024) × IndexedIn st links.now index.now }
-    ensures { JudgesOpen st links.now used.old births.old order.old tree1.old tree2.old ear.now result used.new births.new order.new tree1.new tree2.new }
+) -> Result<u16, Refusal>
+    requires { (length order.old ≡ 1024) × IndexedIn st.old links.now index.now }
+    ensures { JudgesOpen st.old links.now used.old births.old order.old tree1.old tree2.old ear.now result st.new used.new births.new order.new tree1.new tree2.new }
 {
-    let numbers = rows::least(2 * (st.m as usize), links.len());
-    let table = &links[..numbers];
-    let answer = judge::judge(
-        st.n,
-        table,
-        index,
-        st.root,
-        st.first,
-        st.last,
-        births,
-        used,
-        st.born == 0,
-        ear,
+    let table = stored(st.m, links);
+    let initial = st.born == 0;
+    let count = judge::judge(
+        st.n, table, index, st.root, st.first, st.last, births, used, initial, ear,
+    )?;
+    let counts = tables::accept(
+        table, index, ear, st.longs, st.born, used, births, order, tree1, tree2,
     );
-    match answer {
-        Ear::Refused(number, place) => ear_refused(number, place, st),
-        Ear::New(count) => {
-            let counts = tables::accept(
-                table, index, ear, st.longs, st.born, used, births, order, tree1, tree2,
-            );
-            let mut state = st;
-            state.longs = counts.longs;
-            state.born = counts.born;
-            OfferedIn { answer, state }
-        }
-    }
+    st.longs = counts.longs;
+    st.born = counts.born;
+    Ok(count)
 }
 
 // The ear is an empty one: it has no number, and is not the first.
 fn is_empty(born: u16, ear: &[u16]) -> bool
     ensures { result ≡ is_empty (eqb born 0) ear.now }
 {
-    if born == 0 {
-        return false;
-    }
-    ear.len() == 0
+    born != 0 && ear.len() == 0
 }
 
 // An empty ear takes the leftover links; any other is judged.
 fn enter_open(
-    st: State,
+    st: &mut State,
     links: &[u16],
     index: &[u16],
     used: &mut [u8],
@@ -200,25 +176,21 @@ fn enter_open(
     tree1: &mut [u16],
     tree2: &mut [u16],
     ear: &[u16],
-) -> OfferedIn
-    requires { (length order.old ≡ 1024) × IndexedIn st links.now index.now }
-    ensures { OffersOpen st links.now used.old births.old order.old tree1.old tree2.old ear.now result used.new births.new order.new tree1.new tree2.new }
+) -> Result<u16, Refusal>
+    requires { (length order.old ≡ 1024) × IndexedIn st.old links.now index.now }
+    ensures { OffersOpen st.old links.now used.old births.old order.old tree1.old tree2.old ear.now result st.new used.new births.new order.new tree1.new tree2.new }
 {
     if is_empty(st.born, ear) {
-        let numbers = rows::least(2 * (st.m as usize), links.len());
-        left_over::take_left_over(&links[..numbers], births, used);
-        let none_new = Ear::New(0);
-        return OfferedIn {
-            answer: none_new,
-            state: st,
-        };
+        left_over::take_left_over(stored(st.m, links), births, used);
+        Ok(0)
+    } else {
+        ear_open(st, links, index, used, births, order, tree1, tree2, ear)
     }
-    ear_open(st, links, index, used, births, order, tree1, tree2, ear)
 }
 
 // The same, by one search of the link for a later ear of two numbers that is accepted.
 fn offer_open(
-    st: State,
+    st: &mut State,
     links: &[u16],
     index: &[u16],
     used: &mut [u8],
@@ -227,26 +199,23 @@ fn offer_open(
     tree1: &mut [u16],
     tree2: &mut [u16],
     ear: &[u16],
-) -> OfferedIn
-    requires { (length order.old ≡ 1024) × IndexedIn st links.now index.now }
-    ensures { OffersOpen st links.now used.old births.old order.old tree1.old tree2.old ear.now result used.new births.new order.new tree1.new tree2.new }
+) -> Result<u16, Refusal>
+    requires { (length order.old ≡ 1024) × IndexedIn st.old links.now index.now }
+    ensures { OffersOpen st.old links.now used.old births.old order.old tree1.old tree2.old ear.now result st.new used.new births.new order.new tree1.new tree2.new }
 {
-    let numbers = rows::least(2 * (st.m as usize), links.len());
-    let table = &links[..numbers];
+    let table = stored(st.m, links);
     let link = judge::short_link(st.n, table, index, births, used, st.born == 0, ear);
-    if link < numbers / 2 {
-        let mut state = st;
-        state.born = tables::accept_short(link, st.born, used, order);
-        let answer = Ear::New(0);
-        return OfferedIn { answer, state };
+    if let Some(link) = link {
+        st.born = tables::accept_short(link, st.born, used, order);
+        return Ok(0);
     }
     enter_open(st, links, index, used, births, order, tree1, tree2, ear)
 }
 
 // Offers an ear to an open session: 19 on an empty one, 22 on a closed one; then an empty ear after the first one takes the leftover
 // links, and any other is judged by checks 7 to 16.
-pub fn ear(
-    st: State,
+pub fn ear_in(
+    st: &mut State,
     links: &[u16],
     index: &[u16],
     used: &mut [u8],
@@ -255,107 +224,84 @@ pub fn ear(
     tree1: &mut [u16],
     tree2: &mut [u16],
     ear: &[u16],
-) -> OfferedIn
-    requires { (length order.old ≡ 1024) × IndexedIn st links.now index.now }
-    ensures { OffersIn st links.now used.old births.old order.old tree1.old tree2.old ear.now result used.new births.new order.new tree1.new tree2.new }
+) -> Result<u16, Refusal>
+    requires { (length order.old ≡ 1024) × IndexedIn st.old links.now index.now }
+    ensures { OffersIn st.old links.now used.old births.old order.old tree1.old tree2.old ear.now result st.new used.new births.new order.new tree1.new tree2.new }
 {
-    let stage = st.stage;
-    match stage {
-        Stage::Empty => ear_refused(19, 0, st),
+    match st.stage {
+        Stage::Empty => Err(Refusal::SessionEmpty),
         Stage::Open => offer_open(st, links, index, used, births, order, tree1, tree2, ear),
-        Stage::Closed => ear_refused(22, 0, st),
+        Stage::Closed => Err(Refusal::SessionClosed),
     }
-}
-
-fn close_refused(number: u8, place: u16, state: State) -> ClosedIn
-    ensures { result ≡ record { answer = Close·.Refused number place; state = state } }
-{
-    let answer = Close::Refused(number, place);
-    ClosedIn { answer, state }
-}
-
-// The session is closed.
-fn closed(st: State) -> ClosedIn
-    ensures { result ≡ record { answer = Close·.Closed; state = closed_state st } }
-{
-    let answer = Close::Closed;
-    let stage = Stage::Closed;
-    let state = State {
-        stage,
-        n: st.n,
-        m: st.m,
-        root: st.root,
-        first: st.first,
-        last: st.last,
-        longs: st.longs,
-        born: st.born,
-    };
-    ClosedIn { answer, state }
 }
 
 // Check 23, and tree 3 where it is clear.
-fn close_open(st: State, links: &[u16], used: &[u8], births: &[u16], tree3: &mut [u16]) -> ClosedIn
+fn close_open(
+    st: &mut State,
+    links: &[u16],
+    used: &[u8],
+    births: &[u16],
+    tree3: &mut [u16],
+) -> Result<(), Refusal>
     requires { SizedForThird links.now births.now tree3.old }
-    ensures { ClosesOpen st links.now used.now births.now tree3.old result tree3.new }
+    ensures { ClosesOpen st.old links.now used.now births.now tree3.old result st.new tree3.new }
 {
-    let numbers = rows::least(2 * (st.m as usize), links.len());
-    let table = &links[..numbers];
-    let answer = closing::check_used(table, used);
-    match answer {
-        Close::Refused(number, place) => close_refused(number, place, st),
-        Close::Closed => {
-            thirds::set_tree3(tree3, st.n, table, st.root, st.last, births);
-            closed(st)
-        }
-    }
+    let table = stored(st.m, links);
+    closing::check_used(table, used)?;
+    thirds::set_tree3(tree3, st.n, table, st.root, st.last, births);
+    st.stage = Stage::Closed;
+    Ok(())
 }
 
 // Closes an open session: 19 on an empty one, 22 on a closed one, then check 23.
-pub fn close(st: State, links: &[u16], used: &[u8], births: &[u16], tree3: &mut [u16]) -> ClosedIn
+pub fn close_in(
+    st: &mut State,
+    links: &[u16],
+    used: &[u8],
+    births: &[u16],
+    tree3: &mut [u16],
+) -> Result<(), Refusal>
     requires { SizedForThird links.now births.now tree3.old }
-    ensures { ClosesIn st links.now used.now births.now tree3.old result tree3.new }
+    ensures { ClosesIn st.old links.now used.now births.now tree3.old result st.new tree3.new }
 {
-    let stage = st.stage;
-    match stage {
-        Stage::Empty => close_refused(19, 0, st),
+    match st.stage {
+        Stage::Empty => Err(Refusal::SessionEmpty),
         Stage::Open => close_open(st, links, used, births, tree3),
-        Stage::Closed => close_refused(22, 0, st),
+        Stage::Closed => Err(Refusal::SessionClosed),
+    }
+}
+
+// The row of tree 1, 2 or 3.
+fn row_of<'a>(tree1: &'a [u16], tree2: &'a [u16], tree3: &'a [u16], tree: u16) -> &'a [u16]
+    ensures { result.now ≡ row_of tree1.now tree2.now tree3.now tree }
+{
+    match tree {
+        1 => tree1,
+        2 => tree2,
+        _ => tree3,
     }
 }
 
 // The entry of a switch in the table of a tree, 1 to 3: 19 on an empty session, 21 on an open one, then check 17.
-pub fn parent(
+pub fn parent_in(
     st: State,
     tree1: &[u16],
     tree2: &[u16],
     tree3: &[u16],
     switch: u16,
     tree: u16,
-) -> Parent
+) -> Result<u16, Refusal>
     ensures { ParentIn st tree1.now tree2.now tree3.now switch tree result }
 {
-    let stage = st.stage;
-    let Stage::Closed = stage else {
-        return match stage {
-            Stage::Empty => Parent::Refused(19, 0),
-            Stage::Open => Parent::Refused(21, 0),
-            Stage::Closed => Parent::Refused(21, 0),
-        };
-    };
+    st.stage.require_closed()?;
     if walks::unknown(st.n, switch, tree) {
-        return Parent::Refused(17, 0);
+        return Err(Refusal::Unknown);
     }
-    if tree == 1 {
-        return Parent::Entry(rows::entry(tree1, switch));
-    }
-    if tree == 2 {
-        return Parent::Entry(rows::entry(tree2, switch));
-    }
-    Parent::Entry(rows::entry(tree3, switch))
+    Ok(rows::entry(row_of(tree1, tree2, tree3, tree), switch))
 }
 
 // The walk of a switch in a tree, 1 to 3, at the start of the slice: 19 on an empty session, 21 on an open one, then checks 17 and 18.
-pub fn walk(
+pub fn walk_in(
     st: State,
     tree1: &[u16],
     tree2: &[u16],
@@ -363,25 +309,116 @@ pub fn walk(
     switch: u16,
     tree: u16,
     out: &mut [u16],
-) -> Walk
+) -> Result<u16, Refusal>
     ensures { WalksIn st tree1.now tree2.now tree3.now switch tree out.old result out.new }
 {
-    let stage = st.stage;
-    let Stage::Closed = stage else {
-        return match stage {
-            Stage::Empty => Walk::Refused(19, 0),
-            Stage::Open => Walk::Refused(21, 0),
-            Stage::Closed => Walk::Refused(21, 0),
-        };
-    };
+    st.stage.require_closed()?;
     if walks::unknown(st.n, switch, tree) {
-        return Walk::Refused(17, 0);
+        return Err(Refusal::Unknown);
     }
-    if tree == 1 {
-        return walks::walk_by(tree1, st.n, st.root, switch, out);
+    walks::walk_by(
+        row_of(tree1, tree2, tree3, tree),
+        st.n,
+        st.root,
+        switch,
+        out,
+    )
+}
+
+impl Session {
+    // What a session holds beside its arrays.
+    pub fn state(&self) -> State
+        ensures { result ≡ state_in self.now }
+    {
+        State {
+            stage: self.stage,
+            n: self.n,
+            m: self.m,
+            root: self.root,
+            first: self.first,
+            last: self.last,
+            longs: self.longs,
+            born: self.born,
+        }
     }
-    if tree == 2 {
-        return walks::walk_by(tree2, st.n, st.root, switch, out);
+
+    // The same arrays, with another state.
+    pub fn set_state(&mut self, st: State)
+        ensures { self.new ≡ with_state self.old st }
+    {
+        self.stage = st.stage;
+        self.n = st.n;
+        self.m = st.m;
+        self.root = st.root;
+        self.first = st.first;
+        self.last = st.last;
+        self.longs = st.longs;
+        self.born = st.born;
     }
-    walks::walk_by(tree3, st.n, st.root, switch, out)
+
+    // Offers an ear to an open session, with the index of its links, or none.
+    pub fn offer(&mut self, index: &[u16], ear: &[u16]) -> Result<u16, Refusal>
+        requires { IndexedIn (state_in self.old) self.old.links index.now }
+        ensures { record { answer = ear_answer result; after = self.new } ≡ offered_by self.old ear.now }
+    {
+        let mut st = self.state();
+        let answer = ear_in(
+            &mut st,
+            &self.links,
+            index,
+            &mut self.used,
+            &mut self.births,
+            &mut self.order,
+            &mut self.tree1,
+            &mut self.tree2,
+            ear,
+        );
+        self.set_state(st);
+        answer
+    }
+
+    // Closes an open session: 19 on an empty one, 22 on a closed one, then check 23.
+    pub fn try_close(&mut self) -> Result<(), Refusal>
+        ensures { record { answer = close_answer result; after = self.new } ≡ closed_by shortest self.old }
+    {
+        let mut st = self.state();
+        let answer = close_in(
+            &mut st,
+            &self.links,
+            &self.used,
+            &self.births,
+            &mut self.tree3,
+        );
+        self.set_state(st);
+        answer
+    }
+
+    // The entry of a switch in the table of a tree, 1 to 3: 19 on an empty session, 21 on an open one, then check 17.
+    pub fn parent_of(&self, switch: u16, tree: u16) -> Result<u16, Refusal>
+        ensures { parent_answer result ≡ parent_by self.now switch tree }
+    {
+        parent_in(
+            self.state(),
+            &self.tree1,
+            &self.tree2,
+            &self.tree3,
+            switch,
+            tree,
+        )
+    }
+
+    // The walk of a switch in a tree, 1 to 3, at the start of the slice: 19 on an empty session, 21 on an open one, then checks 17 and 18.
+    pub fn walk_of(&self, switch: u16, tree: u16, out: &mut [u16]) -> Result<u16, Refusal>
+        ensures { record { answer = walk_answer result; after = out.new } ≡ walked_by self.now switch tree out.old }
+    {
+        walk_in(
+            self.state(),
+            &self.tree1,
+            &self.tree2,
+            &self.tree3,
+            switch,
+            tree,
+            out,
+        )
+    }
 }

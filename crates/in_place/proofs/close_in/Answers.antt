@@ -1,0 +1,26 @@
+use Rattle.std.proofs.Common.{List, ℕ, sym, ap, ◌∙◌}
+use Rattle.mondschein.specs.Outcome.{settle}
+use Rattle.in_place.specs.declared.Session.{Session}
+use Rattle.in_place.specs.InPlace.{session_in}
+use Rattle.in_place.specs.Session.{closed_by}
+use Rattle.in_place.proofs.Answers.{after_refused, on_empty_lem, on_open_lem, on_closed_lem}
+use Rattle.in_place.proofs.close_in.Goals as goal
+
+pub returns-in-Empty : goal.returns-in-Empty
+unfolding closed_by
+returns-in-Empty c =
+    let held : List ℕ → List ℕ → List ℕ → List ℕ → Session = λ ducts order tree1 tree2. session_in c.args.st.now c.args.links.now ducts c.args.used.now c.args.births.now order tree1 tree2 c.args.tree3.now in
+    λ ducts order tree1 tree2. after_refused (held ducts order tree1 tree2) _ (on_empty_lem _ _ _ c.in-Empty.is)
+
+pub returns-in-Open : goal.returns-in-Open
+unfolding closed_by
+returns-in-Open c =
+    let held : List ℕ → List ℕ → List ℕ → List ℕ → Session = λ ducts order tree1 tree2. session_in c.args.st.now c.args.links.now ducts c.args.used.now c.args.births.now order tree1 tree2 c.args.tree3.now in
+    λ ducts order tree1 tree2. c.close_open.ensures ducts order tree1 tree2
+    ∙ ap (settle (held ducts order tree1 tree2) _) (sym (on_open_lem _ _ _ c.in-Open.is))
+
+pub returns-in-Closed : goal.returns-in-Closed
+unfolding closed_by
+returns-in-Closed c =
+    let held : List ℕ → List ℕ → List ℕ → List ℕ → Session = λ ducts order tree1 tree2. session_in c.args.st.now c.args.links.now ducts c.args.used.now c.args.births.now order tree1 tree2 c.args.tree3.now in
+    λ ducts order tree1 tree2. after_refused (held ducts order tree1 tree2) _ (on_closed_lem _ _ _ c.in-Closed.is)
