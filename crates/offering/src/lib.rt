@@ -2,39 +2,26 @@
 // for a list once. Each ear of a list is judged by the call that a single ear uses.
 #![tactic(auto)]
 
-ghost use Rattle.std.specs.Prelude.{◌≡◌, ◌<◌, length};
+ghost use Rattle.std.specs.Prelude.{◌≡◌, [], length, MatchOption};
 ghost use Rattle.in_place.specs.InPlace.{IndexedIn, OffersIn};
-ghost use Rattle.offering.specs.declared.EarList.TheVariants as EarList·;
-ghost use Rattle.offering.specs.Offering.{PartOf, ListsIn};
+ghost use Rattle.offering.specs.Offering.{FirstEar, ListsIn};
 
-use in_place::{OfferedIn, Stage, State};
-use judge::Ear;
+use in_place::{Stage, State};
+use refusals::Refusal;
 
 // An index is made where the count of numbers offered times the numbers of the table is more than this.
 const INDEX_PAYS: usize = 32768;
 
-// What a list of ears is answered: how many were accepted, and the number and the place of the refusal of the next, if any.
-#[derive(Clone, Copy)]
-pub enum EarList {
-    Accepted(usize),
-    Refused(usize, u8, u16),
-}
-
-// What a list of ears is answered, and the state after it.
-#[derive(Clone, Copy)]
-pub struct ListedIn {
-    pub answer: EarList,
-    pub state: State,
+// How a list of ears ends that is not accepted whole: how many ears were accepted, and the refusal of the next.
+#[derive(Clone, Copy, Debug, PartialEq, Eq)]
+pub struct ListRefusal {
+    pub accepted: usize,
+    pub refusal: Refusal,
 }
 
 // Whether an index pays for so many numbers: on an open session, where they and the table are long.
 fn index_pays(st: State, count: usize) -> bool {
-    let stage = st.stage;
-    match stage {
-        Stage::Empty => false,
-        Stage::Open => count > INDEX_PAYS / (2 * (st.m as usize) + 1),
-        Stage::Closed => false,
-    }
+    st.stage == Stage::Open && count > INDEX_PAYS / (2 * (st.m as usize) + 1)
 }
 
 // Makes the index of the links that are stored.
@@ -42,13 +29,12 @@ fn index_links(st: State, links: &[u16], index: &mut [u16])
     requires { length links.now ≡ 8192 }
     ensures { IndexedIn st links.now index.new }
 {
-    let stored = rows::least(2 * (st.m as usize), links.len());
-    network::make_index(&links[..stored], index);
+    network::make_index(in_place::stored(st.m, links), index);
 }
 
 // Offers an ear: 19 on an empty session, 22 on a closed one, then checks 7 to 16.
 pub fn ear(
-    st: State,
+    st: &mut State,
     links: &[u16],
     used: &mut [u8],
     births: &mut [u16],
@@ -56,61 +42,35 @@ pub fn ear(
     tree1: &mut [u16],
     tree2: &mut [u16],
     switches: &[u16],
-) -> OfferedIn
+) -> Result<u16, Refusal>
     requires { (length links.now ≡ 8192) × (length order.old ≡ 1024) }
-    ensures { OffersIn st links.now used.old births.old order.old tree1.old tree2.old switches.now result used.new births.new order.new tree1.new tree2.new }
+    ensures { OffersIn st.old links.now used.old births.old order.old tree1.old tree2.old switches.now result st.new used.new births.new order.new tree1.new tree2.new }
 {
-    if index_pays(st, switches.len()) {
+    if index_pays(*st, switches.len()) {
         let mut index = [0u16; network::INDEX_LENGTH];
-        index_links(st, links, &mut index);
-        return in_place::ear(
+        index_links(*st, links, &mut index);
+        return in_place::ear_in(
             st, links, &index, used, births, order, tree1, tree2, switches,
         );
     }
-    let none = [0u16; 0];
-    in_place::ear(
-        st, links, &none, used, births, order, tree1, tree2, switches,
-    )
+    in_place::ear_in(st, links, &[], used, births, order, tree1, tree2, switches)
 }
 
-// Where the numbers of an ear of a list begin and end, and where the next ear begins.
-#[derive(Clone, Copy)]
-struct Part {
-    start: usize,
-    end: usize,
-    next: usize,
-}
-
-// The ear that begins at a place of a list, with its count; a count past the end is taken as it stands, one number alone.
-fn part_at(list: &[u16], from: usize) -> Part
-    requires { from < length list.now }
-    ensures { PartOf list.now from result }
+// The first ear of a list, and what follows it: its numbers stand after their count, and a count past the end is taken as it stands, one number alone.
+fn first_ear(list: &[u16]) -> Option<(&[u16], &[u16])>
+    ensures { MatchOption result (list.now ≡ []) (λ p. FirstEar list.now p.0.now p.1.now) }
 {
-    let count = list[from] as usize;
-    if count < list.len() - from {
-        return Part {
-            start: from + 1,
-            end: from + 1 + count,
-            next: from + 1 + count,
-        };
+    let (count, rest) = list.split_first()?;
+    let count = *count as usize;
+    if count <= rest.len() {
+        return Some(rest.split_at(count));
     }
-    Part {
-        start: from,
-        end: from + 1,
-        next: list.len(),
-    }
-}
-
-fn ears_refused(accepted: usize, number: u8, place: u16, state: State) -> ListedIn
-    ensures { result ≡ record { answer = EarList·.Refused accepted number place; state = state } }
-{
-    let answer = EarList::Refused(accepted, number, place);
-    ListedIn { answer, state }
+    Some((&list[..1], &[]))
 }
 
 // Offers the ears of a list one after another, up to the first refusal.
 fn offer_each(
-    st: State,
+    st: &mut State,
     links: &[u16],
     index: &[u16],
     used: &mut [u8],
@@ -119,46 +79,29 @@ fn offer_each(
     tree1: &mut [u16],
     tree2: &mut [u16],
     list: &[u16],
-) -> ListedIn
-    requires { (length order.old ≡ 1024) × IndexedIn st links.now index.now }
-    ensures { ListsIn st links.now used.old births.old order.old tree1.old tree2.old list.now result used.new births.new order.new tree1.new tree2.new }
+) -> Result<usize, ListRefusal>
+    requires { (length order.old ≡ 1024) × IndexedIn st.old links.now index.now }
+    ensures { ListsIn st.old links.now used.old births.old order.old tree1.old tree2.old list.now result st.new used.new births.new order.new tree1.new tree2.new }
 {
-    let mut state = st;
     let mut accepted = 0;
-    let mut next = 0;
-    while next < list.len() {
-        let part = part_at(list, next);
-        let start = part.start;
-        let end = part.end;
-        let offered = in_place::ear(
-            state,
-            links,
-            index,
-            used,
-            births,
-            order,
-            tree1,
-            tree2,
-            &list[start..end],
+    let mut rest = list;
+    while let Some((switches, others)) = first_ear(rest) {
+        let answer = in_place::ear_in(
+            st, links, index, used, births, order, tree1, tree2, switches,
         );
-        state = offered.state;
-        let answer = offered.answer;
-        match answer {
-            Ear::Refused(number, place) => return ears_refused(accepted, number, place, state),
-            Ear::New(count) => {
-                accepted += 1;
-                next = part.next;
-            }
+        if let Err(refusal) = answer {
+            return Err(ListRefusal { accepted, refusal });
         }
+        accepted += 1;
+        rest = others;
     }
-    let answer = EarList::Accepted(accepted);
-    ListedIn { answer, state }
+    Ok(accepted)
 }
 
 // Offers a list of ears, each preceded by its count of numbers: one after another, up to the first refusal. A list of no ears makes no
 // offer, at any stage.
 pub fn ears(
-    st: State,
+    st: &mut State,
     links: &[u16],
     used: &mut [u8],
     births: &mut [u16],
@@ -166,15 +109,14 @@ pub fn ears(
     tree1: &mut [u16],
     tree2: &mut [u16],
     list: &[u16],
-) -> ListedIn
+) -> Result<usize, ListRefusal>
     requires { (length links.now ≡ 8192) × (length order.old ≡ 1024) }
-    ensures { ListsIn st links.now used.old births.old order.old tree1.old tree2.old list.now result used.new births.new order.new tree1.new tree2.new }
+    ensures { ListsIn st.old links.now used.old births.old order.old tree1.old tree2.old list.now result st.new used.new births.new order.new tree1.new tree2.new }
 {
-    if index_pays(st, list.len()) {
+    if index_pays(*st, list.len()) {
         let mut index = [0u16; network::INDEX_LENGTH];
-        index_links(st, links, &mut index);
+        index_links(*st, links, &mut index);
         return offer_each(st, links, &index, used, births, order, tree1, tree2, list);
     }
-    let none = [0u16; 0];
-    offer_each(st, links, &none, used, births, order, tree1, tree2, list)
+    offer_each(st, links, &[], used, births, order, tree1, tree2, list)
 }
