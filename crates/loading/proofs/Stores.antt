@@ -1,20 +1,16 @@
 -- What the code stores is the session that the definitions say: arrays of zeros, and a network with its table and its index.
 -- A refused load leaves the index.
-use mathlib.Core.Path.{◌≡◌, refl, sym, ap, ◌∙◌, subst}
-use mathlib.Core.List.{List, []}
-use Prim.Native.Nat.{ℕ, ◌*◌, ◌-◌, ◌/◌}
-use native.Mathlib.Omega.{arith}
-use lib.ListN.{length, take}
-use lib.Seq.{take_at}
+use Rattle.std.proofs.Common.{◌≡◌, ℕ, ◌*◌, ◌-◌, ◌/◌, List, [], ◌++◌, length, take, drop, refl, sym, ap, ◌∙◌, subst, arith}
+use Rattle.std.proofs.lemmas.List.{take_at, drop-replicate}
 use Rattle.mondschein.specs.Network.{size}
 use Rattle.mondschein.specs.Judge.{Answer, given, refused}
 use Rattle.network.specs.Load.{network_of, table_of}
 use Rattle.network.specs.Index.{Indexed}
 use Rattle.tables.specs.Tables.{tables_of}
 use Rattle.in_place.specs.declared.Stage.{Stage}
-use Rattle.in_place.specs.declared.Stage.TheVariants.{Empty, Open}
+use Rattle.in_place.specs.declared.Stage.TheVariants.{Empty, Open, Closed}
 use Rattle.in_place.specs.declared.State.{State}
-use Rattle.in_place.specs.Session.{Stored, session_of, zeros, padded, no_tables, none_stored, stored_of, empty_session, opened_with}
+use Rattle.in_place.specs.Session.{Stored, session_of, by_stage, zeros, padded, no_tables, none_stored, stored_of, empty_session, opened_with}
 use Rattle.in_place.specs.InPlace.{session_in, empty_state, SizedAs, Paired, IndexedIn, KeepsIndex}
 
 -- an answer is not both
@@ -59,6 +55,17 @@ module _ {l d u b o p q t : List ℕ} (z : SizedAs l d u b o p q t) {u' b' o' p'
       ap (λ (x : List ℕ). session_in st x d' u' b' o' p' q' t') (f ∙ ap (λ (k : ℕ). padded k links) z.links)
       ∙ ap (λ (x : List ℕ). session_in st (padded 8192 links) x u' b' o' p' q' t') (g ∙ ap (λ (k : ℕ). padded k (take (length links / 2) ducts)) z.ducts)
       ∙ cleared Open (stored_of (network_of n links root first last) ducts)
+
+-- a list at the start of a row of zeros
+pub put_in_zeros : (c : ℕ) (l : List ℕ) {row row' : List ℕ} → row ≡ zeros c → row' ≡ l ++ drop (length l) row → row' ≡ padded c l
+put_in_zeros c l q p = p ∙ ap (λ (r : List ℕ). l ++ drop (length l) r) q ∙ ap (λ (r : List ℕ). l ++ r) (drop-replicate (length l) c 0)
+
+-- only an empty session loads
+pub not_empty : {A : Type 0} (stage : Stage) (a b : A) → (stage ≡ Empty → ⊥) → by_stage stage a b b ≡ b
+unfolding by_stage
+not_empty Empty a b h = absurd (h refl)
+not_empty Open a b h = refl
+not_empty Closed a b h = refl
 
 -- the index of the numbers that were lent is that of the links that are stored
 pub index_stored : (n : ℕ) (links : List ℕ) (root first last c : ℕ) {l' index : List ℕ} → Paired links → l' ≡ padded c links → Indexed (table_of links) index
