@@ -3,7 +3,8 @@
 #![tactic(auto)]
 
 ghost use Rattle.std.specs.Prelude.{◌≡◌};
-ghost use Rattle.memory.specs.Memory.{numbers_by, stage_of, stage_number, state_of, numbers_of, wrong_lengths};
+ghost use Rattle.refusals.specs.Refusals.{number, place};
+ghost use Rattle.memory.specs.Memory.{refusal_by, numbers_by, stage_of, stage_number, state_of, numbers_of, wrong_lengths};
 
 use in_place::{Session, Stage, State};
 
@@ -21,31 +22,52 @@ pub const OPEN: u16 = 1;
 
 pub const CLOSED: u16 = 2;
 
-// The number of the refusal of arrays of other lengths.
-pub const LENGTHS: u8 = 255;
-
 // The number and the place of a refusal; number 0 where the call succeeded.
 #[repr(C)]
-#[derive(Clone, Copy)]
+#[derive(Clone, Copy, Debug, PartialEq, Eq)]
 pub struct Refusal {
     pub number: u8,
     pub place: u16,
 }
 
+// No refusal: the call succeeded.
+pub const DONE: Refusal = Refusal {
+    number: 0,
+    place: 0,
+};
+
+// The refusal of arrays of other lengths.
+pub const WRONG_LENGTHS: Refusal = Refusal {
+    number: 255,
+    place: 0,
+};
+
+// A refusal in numbers.
+impl From<refusals::Refusal> for Refusal {
+    ghost from_gives = { λ e r. r ≡ refusal_by (number e) (place e) };
+
+    fn from(refusal: refusals::Refusal) -> Refusal {
+        Refusal {
+            number: refusal.number(),
+            place: refusal.place(),
+        }
+    }
+}
+
 // The stage that a number means.
+#[tactic(auto, unfolding(crate::specs::Memory::stage_of))]
 fn stage_of(number: u16) -> Stage
     ensures { result ≡ stage_of number }
 {
-    if number == OPEN {
-        return Stage::Open;
+    match number {
+        OPEN => Stage::Open,
+        CLOSED => Stage::Closed,
+        _ => Stage::Empty,
     }
-    if number == CLOSED {
-        return Stage::Closed;
-    }
-    Stage::Empty
 }
 
 // The number of a stage.
+#[tactic(auto, unfolding(crate::specs::Memory::stage_number))]
 fn stage_number(stage: Stage) -> u16
     ensures { result ≡ stage_number stage }
 {
@@ -69,9 +91,8 @@ pub fn state_of(
 ) -> State
     ensures { result ≡ state_of (numbers_by stage n m root first last longs born) }
 {
-    let meant = stage_of(stage);
     State {
-        stage: meant,
+        stage: stage_of(stage),
         n,
         m,
         root,
@@ -97,9 +118,7 @@ pub fn put_state(
     ensures { numbers_by stage.new n.new m.new root.new
         first.new last.new longs.new born.new ≡ numbers_of st }
 {
-    let reached = st.stage;
-    let number = stage_number(reached);
-    *stage = number;
+    *stage = stage_number(st.stage);
     *n = st.n;
     *m = st.m;
     *root = st.root;
@@ -110,6 +129,7 @@ pub fn put_state(
 }
 
 // Arrays of other lengths than the struct's.
+#[tactic(auto, unfolding(crate::specs::Memory::wrong_lengths))]
 pub fn wrong_lengths(
     links: usize,
     ducts: usize,
@@ -122,26 +142,7 @@ pub fn wrong_lengths(
 ) -> bool
     ensures { result ≡ wrong_lengths links ducts used births order tree1 tree2 tree3 }
 {
-    if links != LINKS {
-        return true;
-    }
-    if ducts != MARKS {
-        return true;
-    }
-    if used != MARKS {
-        return true;
-    }
-    if births != ROW {
-        return true;
-    }
-    if order != ROW {
-        return true;
-    }
-    if tree1 != ROW {
-        return true;
-    }
-    if tree2 != ROW {
-        return true;
-    }
-    tree3 != ROW
+    let by_link = links != LINKS || ducts != MARKS || used != MARKS;
+    let by_switch = births != ROW || order != ROW;
+    by_link || by_switch || tree1 != ROW || tree2 != ROW || tree3 != ROW
 }

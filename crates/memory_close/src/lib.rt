@@ -5,9 +5,7 @@
 ghost use Rattle.memory.specs.Memory.{numbers_by, memory_by};
 ghost use Rattle.memory.specs.Calls.{Closes, BringsOver};
 
-use bringing::BroughtOver;
-use closing::Close;
-use memory::{CLOSED, LENGTHS, MARKS, ROW, Refusal};
+use memory::{CLOSED, MARKS, ROW, Refusal};
 
 // Closes an open session: 19 on an empty one, 22 on a closed one, then check 23.
 pub fn close(
@@ -41,22 +39,15 @@ pub fn close(
         ROW,
         tree3.len(),
     ) {
-        return Refusal {
-            number: LENGTHS,
-            place: 0,
-        };
+        return memory::WRONG_LENGTHS;
     }
-    let st = memory::state_of(*stage, n, m, root, first, last, longs, born);
-    let closed = in_place::close(st, links, used, births, tree3);
-    let answer = closed.answer;
-    match answer {
-        Close::Refused(number, place) => Refusal { number, place },
-        Close::Closed => {
+    let mut st = memory::state_of(*stage, n, m, root, first, last, longs, born);
+    let closed = in_place::close_in(&mut st, links, used, births, tree3);
+    match closed {
+        Err(refusal) => Refusal::from(refusal),
+        Ok(()) => {
             *stage = CLOSED;
-            Refusal {
-                number: 0,
-                place: 0,
-            }
+            memory::DONE
         }
     }
 }
@@ -92,18 +83,12 @@ pub fn bring_over(
         ROW,
         tree3.len(),
     ) {
-        return Refusal {
-            number: LENGTHS,
-            place: 0,
-        };
+        return memory::WRONG_LENGTHS;
     }
     let st = memory::state_of(stage, n, m, root, first, last, longs, born);
     let answer = bringing::bring_over(st, links, births, tree3);
     match answer {
-        BroughtOver::Refused(number, place) => Refusal { number, place },
-        BroughtOver::Done => Refusal {
-            number: 0,
-            place: 0,
-        },
+        Err(refusal) => Refusal::from(refusal),
+        Ok(()) => memory::DONE,
     }
 }

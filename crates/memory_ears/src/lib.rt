@@ -5,9 +5,7 @@
 ghost use Rattle.memory.specs.Memory.{numbers_by, memory_by};
 ghost use Rattle.memory.specs.Calls.{Offers, Lists};
 
-use judge::Ear;
-use memory::{LENGTHS, MARKS, ROW, Refusal};
-use offering::EarList;
+use memory::{MARKS, ROW, Refusal};
 
 // Offers an ear to an open session: 19 on an empty one, 22 on a closed one, then checks 7 to 16. Writes the number of new switches.
 pub fn ear(
@@ -46,25 +44,17 @@ pub fn ear(
         tree2.len(),
         ROW,
     ) {
-        return Refusal {
-            number: LENGTHS,
-            place: 0,
-        };
+        return memory::WRONG_LENGTHS;
     }
-    let st = memory::state_of(stage, n, m, root, first, last, *longs, *born);
-    let offered = offering::ear(st, links, used, births, order, tree1, tree2, ear);
-    let answer = offered.answer;
-    match answer {
-        Ear::Refused(number, place) => Refusal { number, place },
-        Ear::New(new) => {
-            let state = offered.state;
-            *longs = state.longs;
-            *born = state.born;
+    let mut st = memory::state_of(stage, n, m, root, first, last, *longs, *born);
+    let offered = offering::ear(&mut st, links, used, births, order, tree1, tree2, ear);
+    match offered {
+        Err(refusal) => Refusal::from(refusal),
+        Ok(new) => {
+            *longs = st.longs;
+            *born = st.born;
             *count = new;
-            Refusal {
-                number: 0,
-                place: 0,
-            }
+            memory::DONE
         }
     }
 }
@@ -107,28 +97,20 @@ pub fn ears(
         tree2.len(),
         ROW,
     ) {
-        return Refusal {
-            number: LENGTHS,
-            place: 0,
-        };
+        return memory::WRONG_LENGTHS;
     }
-    let st = memory::state_of(stage, n, m, root, first, last, *longs, *born);
-    let listed = offering::ears(st, links, used, births, order, tree1, tree2, list);
-    let reached = listed.state;
+    let mut reached = memory::state_of(stage, n, m, root, first, last, *longs, *born);
+    let listed = offering::ears(&mut reached, links, used, births, order, tree1, tree2, list);
     *longs = reached.longs;
     *born = reached.born;
-    let answer = listed.answer;
-    match answer {
-        EarList::Accepted(count) => {
+    match listed {
+        Ok(count) => {
             *accepted = count;
-            Refusal {
-                number: 0,
-                place: 0,
-            }
+            memory::DONE
         }
-        EarList::Refused(before, number, place) => {
-            *accepted = before;
-            Refusal { number, place }
+        Err(end) => {
+            *accepted = end.accepted;
+            Refusal::from(end.refusal)
         }
     }
 }

@@ -8,8 +8,7 @@ ghost use Rattle.records.specs.Records.{numbers_of};
 ghost use Rattle.memory.specs.Memory.{numbers_by, memory_by};
 ghost use Rattle.memory.specs.Calls.{Clears, Loads};
 
-use memory::{LENGTHS, Refusal};
-use network::Load;
+use memory::Refusal;
 use records::Flat;
 
 // Loads the first `count` links of a flat table, with their ducts, into an empty session; where the table has no room for so many, none: 255
@@ -61,21 +60,15 @@ pub fn load_flat(
         tree2.len(),
         tree3.len(),
     ) {
-        return Refusal {
-            number: LENGTHS,
-            place: 0,
-        };
+        return memory::WRONG_LENGTHS;
     }
-    let st = memory::state_of(*stage, *n, *m, *root, *first, *last, *longs, *born);
-    let ends = flat.ends;
-    let new_ducts = flat.ducts;
-    let numbers = records::numbers_of(count);
-    let mut none = [0u16; 0];
+    let mut st = memory::state_of(*stage, *n, *m, *root, *first, *last, *longs, *born);
+    let ends = rows::prefix(&flat.ends, records::numbers_of(count));
     let loaded = loading::load(
-        st,
+        &mut st,
         new_n,
-        &ends[..numbers],
-        &new_ducts,
+        ends,
+        &flat.ducts,
         new_root,
         new_first,
         new_last,
@@ -87,18 +80,13 @@ pub fn load_flat(
         tree1,
         tree2,
         tree3,
-        &mut none,
+        &mut [],
     );
-    let answer = loaded.answer;
-    match answer {
-        Load::Refused(number, place) => Refusal { number, place },
-        Load::Loaded(switches, size) => {
-            let state = loaded.state;
-            memory::put_state(state, stage, n, m, root, first, last, longs, born);
-            Refusal {
-                number: 0,
-                place: 0,
-            }
+    match loaded {
+        Err(refusal) => Refusal::from(refusal),
+        Ok(_) => {
+            memory::put_state(st, stage, n, m, root, first, last, longs, born);
+            memory::DONE
         }
     }
 }
@@ -145,18 +133,19 @@ pub fn clear(
         tree2.len(),
         tree3.len(),
     ) {
-        return Refusal {
-            number: LENGTHS,
-            place: 0,
-        };
+        return memory::WRONG_LENGTHS;
     }
-    let mut none = [0u16; 0];
     let cleared = loading::clear(
-        links, ducts, used, births, order, tree1, tree2, tree3, &mut none,
+        links,
+        ducts,
+        used,
+        births,
+        order,
+        tree1,
+        tree2,
+        tree3,
+        &mut [],
     );
     memory::put_state(cleared, stage, n, m, root, first, last, longs, born);
-    Refusal {
-        number: 0,
-        place: 0,
-    }
+    memory::DONE
 }

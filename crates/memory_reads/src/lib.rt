@@ -5,9 +5,7 @@
 ghost use Rattle.memory.specs.Memory.{numbers_by, memory_by};
 ghost use Rattle.memory.specs.Calls.{Tells, WritesWalk, WritesZones};
 
-use memory::{LENGTHS, LINKS, MARKS, ROW, Refusal};
-use walks::{Parent, Walk};
-use zoning::Zoned;
+use memory::{LINKS, MARKS, ROW, Refusal};
 
 // Writes the entry of a switch in the table of a tree, 1 to 3: 19 on an empty session, 21 on an open one, then check 17.
 pub fn parent(
@@ -41,21 +39,15 @@ pub fn parent(
         tree2.len(),
         tree3.len(),
     ) {
-        return Refusal {
-            number: LENGTHS,
-            place: 0,
-        };
+        return memory::WRONG_LENGTHS;
     }
     let st = memory::state_of(stage, n, m, root, first, last, longs, born);
-    let answer = in_place::parent(st, tree1, tree2, tree3, switch, tree);
+    let answer = in_place::parent_in(st, tree1, tree2, tree3, switch, tree);
     match answer {
-        Parent::Refused(number, place) => Refusal { number, place },
-        Parent::Entry(parent) => {
+        Err(refusal) => Refusal::from(refusal),
+        Ok(parent) => {
             *out = parent;
-            Refusal {
-                number: 0,
-                place: 0,
-            }
+            memory::DONE
         }
     }
 }
@@ -94,21 +86,15 @@ pub fn walk(
         tree2.len(),
         tree3.len(),
     ) {
-        return Refusal {
-            number: LENGTHS,
-            place: 0,
-        };
+        return memory::WRONG_LENGTHS;
     }
     let st = memory::state_of(stage, n, m, root, first, last, longs, born);
-    let answer = in_place::walk(st, tree1, tree2, tree3, switch, tree, out);
+    let answer = in_place::walk_in(st, tree1, tree2, tree3, switch, tree, out);
     match answer {
-        Walk::Refused(number, place) => Refusal { number, place },
-        Walk::Count(switches) => {
+        Err(refusal) => Refusal::from(refusal),
+        Ok(switches) => {
             *count = switches;
-            Refusal {
-                number: 0,
-                place: 0,
-            }
+            memory::DONE
         }
     }
 }
@@ -146,18 +132,12 @@ pub fn zones(
         ROW,
         ROW,
     ) {
-        return Refusal {
-            number: LENGTHS,
-            place: 0,
-        };
+        return memory::WRONG_LENGTHS;
     }
     let st = memory::state_of(stage, n, m, root, first, last, longs, born);
     let answer = zoning::zones_in(st, births, order, size1, size2, size3, out);
     match answer {
-        Zoned::Refused(number, place) => Refusal { number, place },
-        Zoned::Written => Refusal {
-            number: 0,
-            place: 0,
-        },
+        Err(refusal) => Refusal::from(refusal),
+        Ok(()) => memory::DONE,
     }
 }

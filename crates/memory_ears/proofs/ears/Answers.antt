@@ -3,11 +3,13 @@ use mathlib.Core.Bool.{false}
 use mathlib.Core.List.{List}
 use Prim.Native.Nat.{ℕ}
 use lib.ListN.{length}
+use Rattle.std.specs.Prelude.{Result}
+use Rattle.refusals.specs.declared.Refusal.{Refusal as Refusal·}
+use Rattle.offering.specs.declared.ListRefusal.{ListRefusal}
 use Rattle.in_place.specs.declared.Session.{Session}
 use Rattle.in_place.specs.declared.State.{State}
 use Rattle.in_place.specs.Session.{listed_by}
 use Rattle.in_place.specs.InPlace.{session_in}
-use Rattle.offering.specs.declared.EarList.{EarList}
 use Rattle.offering.specs.Offering.{ears_answer}
 use Rattle.memory.specs.Memory.{Memory, numbers_by, memory_by, session_at, wrong_lengths, end_of, output_of}
 use Rattle.memory.proofs.Returns.{list_wrong, list_right, listing_call, lengths_ear, right}
@@ -23,54 +25,24 @@ ears-listed-requires c =
     let lengths = right _ _ _ _ _ _ _ _ right_lengths in
     (lengths.0, lengths.4)
 
-pub shape_of-used-in-Accepted : goal.shape_of-used-in-Accepted
-shape_of-used-in-Accepted c = c.ears-listed.auto.used
-
-pub shape_of-births-in-Accepted : goal.shape_of-births-in-Accepted
-shape_of-births-in-Accepted c = c.ears-listed.auto.births
-
-pub shape_of-order-in-Accepted : goal.shape_of-order-in-Accepted
-shape_of-order-in-Accepted c = c.ears-listed.auto.order
-
-pub shape_of-tree1-in-Accepted : goal.shape_of-tree1-in-Accepted
-shape_of-tree1-in-Accepted c = c.ears-listed.auto.tree1
-
-pub shape_of-tree2-in-Accepted : goal.shape_of-tree2-in-Accepted
-shape_of-tree2-in-Accepted c = c.ears-listed.auto.tree2
-
-pub returns-in-Accepted : goal.returns-in-Accepted
+pub returns-in-Ok : goal.returns-in-Ok
 unfolding ears_answer end_of output_of
-returns-in-Accepted c =
+returns-in-Ok c =
     let held : List ℕ → List ℕ → Memory = λ (ducts : List ℕ) (tree3 : List ℕ). memory_by (numbers_by c.args.stage c.args.n c.args.m c.args.root c.args.first c.args.last c.args.longs.now c.args.born.now) c.args.links.now ducts c.args.used.now c.args.births.now c.args.order.now c.args.tree1.now c.args.tree2.now tree3 in
     let right_lengths : wrong_lengths (length c.args.links.now) 4096 (length c.args.used.now) (length c.args.births.now) (length c.args.order.now) (length c.args.tree1.now) (length c.args.tree2.now) 1024 ≡ false = sym c.wrong_lengths.ensures ∙ c.if-wrong_lengths.false in
-    let after : List ℕ → List ℕ → Session = λ (ducts : List ℕ) (tree3 : List ℕ). session_in c.ears-listed.result.state c.args.links.now ducts c.ears-listed.new.used c.ears-listed.new.births c.ears-listed.new.order c.ears-listed.new.tree1 c.ears-listed.new.tree2 tree3 in
-    let answered : (ducts tree3 : List ℕ) (x : EarList) → c.ears-listed.result.answer ≡ x → record { answer = ears_answer x; after = after ducts tree3 } ≡ listed_by (session_at (held ducts tree3)) c.args.list.now = λ ducts tree3 x q. ap (λ (y : EarList). record { answer = ears_answer y; after = after ducts tree3 }) (sym q) ∙ c.ears-listed.ensures ducts tree3 ∙ ap (λ (st : State). listed_by (session_in st c.args.links.now ducts c.args.used.now c.args.births.now c.args.order.now c.args.tree1.now c.args.tree2.now tree3) c.args.list.now) c.state_of-st.ensures in
+    let after : List ℕ → List ℕ → Session = λ (ducts : List ℕ) (tree3 : List ℕ). session_in c.ears-listed.new.st c.args.links.now ducts c.ears-listed.new.used c.ears-listed.new.births c.ears-listed.new.order c.ears-listed.new.tree1 c.ears-listed.new.tree2 tree3 in
+    let answered : (ducts tree3 : List ℕ) (x : Result ℕ ListRefusal) → c.ears-listed.result ≡ x → record { answer = ears_answer x; after = after ducts tree3 } ≡ listed_by (session_at (held ducts tree3)) c.args.list.now = λ ducts tree3 x q. ap (λ (y : Result ℕ ListRefusal). record { answer = ears_answer y; after = after ducts tree3 }) (sym q) ∙ c.ears-listed.ensures ducts tree3 ∙ ap (λ (st : State). listed_by (session_in st c.args.links.now ducts c.args.used.now c.args.births.now c.args.order.now c.args.tree1.now c.args.tree2.now tree3) c.args.list.now) c.state_of-reached.ensures in
     λ ducts tree3 d t.
     list_right _ _ _ (lengths_ear _ _ _ _ _ _ _ _ d t ∙ right_lengths)
-    (listing_call (held ducts tree3) _ _ _ (after ducts tree3) (answered ducts tree3 _ c.in-Accepted.is) refl refl)
+    (listing_call (held ducts tree3) _ _ _ (after ducts tree3) (answered ducts tree3 _ c.in-Ok.is) refl refl)
 
-pub shape_of-used-in-Refused : goal.shape_of-used-in-Refused
-shape_of-used-in-Refused c = c.ears-listed.auto.used
-
-pub shape_of-births-in-Refused : goal.shape_of-births-in-Refused
-shape_of-births-in-Refused c = c.ears-listed.auto.births
-
-pub shape_of-order-in-Refused : goal.shape_of-order-in-Refused
-shape_of-order-in-Refused c = c.ears-listed.auto.order
-
-pub shape_of-tree1-in-Refused : goal.shape_of-tree1-in-Refused
-shape_of-tree1-in-Refused c = c.ears-listed.auto.tree1
-
-pub shape_of-tree2-in-Refused : goal.shape_of-tree2-in-Refused
-shape_of-tree2-in-Refused c = c.ears-listed.auto.tree2
-
-pub returns-in-Refused : goal.returns-in-Refused
+pub returns-in-Err : goal.returns-in-Err
 unfolding ears_answer end_of output_of
-returns-in-Refused c =
+returns-in-Err c =
     let held : List ℕ → List ℕ → Memory = λ (ducts : List ℕ) (tree3 : List ℕ). memory_by (numbers_by c.args.stage c.args.n c.args.m c.args.root c.args.first c.args.last c.args.longs.now c.args.born.now) c.args.links.now ducts c.args.used.now c.args.births.now c.args.order.now c.args.tree1.now c.args.tree2.now tree3 in
     let right_lengths : wrong_lengths (length c.args.links.now) 4096 (length c.args.used.now) (length c.args.births.now) (length c.args.order.now) (length c.args.tree1.now) (length c.args.tree2.now) 1024 ≡ false = sym c.wrong_lengths.ensures ∙ c.if-wrong_lengths.false in
-    let after : List ℕ → List ℕ → Session = λ (ducts : List ℕ) (tree3 : List ℕ). session_in c.ears-listed.result.state c.args.links.now ducts c.ears-listed.new.used c.ears-listed.new.births c.ears-listed.new.order c.ears-listed.new.tree1 c.ears-listed.new.tree2 tree3 in
-    let answered : (ducts tree3 : List ℕ) (x : EarList) → c.ears-listed.result.answer ≡ x → record { answer = ears_answer x; after = after ducts tree3 } ≡ listed_by (session_at (held ducts tree3)) c.args.list.now = λ ducts tree3 x q. ap (λ (y : EarList). record { answer = ears_answer y; after = after ducts tree3 }) (sym q) ∙ c.ears-listed.ensures ducts tree3 ∙ ap (λ (st : State). listed_by (session_in st c.args.links.now ducts c.args.used.now c.args.births.now c.args.order.now c.args.tree1.now c.args.tree2.now tree3) c.args.list.now) c.state_of-st.ensures in
+    let after : List ℕ → List ℕ → Session = λ (ducts : List ℕ) (tree3 : List ℕ). session_in c.ears-listed.new.st c.args.links.now ducts c.ears-listed.new.used c.ears-listed.new.births c.ears-listed.new.order c.ears-listed.new.tree1 c.ears-listed.new.tree2 tree3 in
+    let answered : (ducts tree3 : List ℕ) (x : Result ℕ ListRefusal) → c.ears-listed.result ≡ x → record { answer = ears_answer x; after = after ducts tree3 } ≡ listed_by (session_at (held ducts tree3)) c.args.list.now = λ ducts tree3 x q. ap (λ (y : Result ℕ ListRefusal). record { answer = ears_answer y; after = after ducts tree3 }) (sym q) ∙ c.ears-listed.ensures ducts tree3 ∙ ap (λ (st : State). listed_by (session_in st c.args.links.now ducts c.args.used.now c.args.births.now c.args.order.now c.args.tree1.now c.args.tree2.now tree3) c.args.list.now) c.state_of-reached.ensures in
     λ ducts tree3 d t.
     list_right _ _ _ (lengths_ear _ _ _ _ _ _ _ _ d t ∙ right_lengths)
-    (listing_call (held ducts tree3) _ _ _ (after ducts tree3) (answered ducts tree3 _ c.in-Refused.is) refl refl)
+    (listing_call (held ducts tree3) _ _ _ (after ducts tree3) (answered ducts tree3 _ c.in-Err.is) c.from.ensures refl)

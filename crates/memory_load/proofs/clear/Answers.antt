@@ -2,6 +2,8 @@ use mathlib.Core.Path.{◌≡◌, refl, sym, ap, ◌∙◌}
 use mathlib.Core.Bool.{false}
 use mathlib.Core.List.{[]}
 use lib.ListN.{length}
+use Rattle.std.specs.Prelude.{Result}
+use Rattle.refusals.specs.declared.Refusal.{Refusal as Refusal·}
 use Rattle.mondschein.specs.Judge.{given}
 use Rattle.mondschein.specs.Outcome.{granted, settle}
 use Rattle.in_place.specs.declared.Session.{Session}
@@ -20,30 +22,6 @@ pub clear-cleared-requires : goal.clear-cleared-requires
 clear-cleared-requires c =
     let right_lengths : wrong_lengths (length c.args.links.now) (length c.args.ducts.now) (length c.args.used.now) (length c.args.births.now) (length c.args.order.now) (length c.args.tree1.now) (length c.args.tree2.now) (length c.args.tree3.now) ≡ false = sym c.wrong_lengths.ensures ∙ c.if-wrong_lengths.false in
     sizes _ _ _ _ _ _ _ _ right_lengths
-
-pub shape_of-links : goal.shape_of-links
-shape_of-links c = c.clear-cleared.auto.links
-
-pub shape_of-ducts : goal.shape_of-ducts
-shape_of-ducts c = c.clear-cleared.auto.ducts
-
-pub shape_of-used : goal.shape_of-used
-shape_of-used c = c.clear-cleared.auto.used
-
-pub shape_of-births : goal.shape_of-births
-shape_of-births c = c.clear-cleared.auto.births
-
-pub shape_of-order : goal.shape_of-order
-shape_of-order c = c.clear-cleared.auto.order
-
-pub shape_of-tree1 : goal.shape_of-tree1
-shape_of-tree1 c = c.clear-cleared.auto.tree1
-
-pub shape_of-tree2 : goal.shape_of-tree2
-shape_of-tree2 c = c.clear-cleared.auto.tree2
-
-pub shape_of-tree3 : goal.shape_of-tree3
-shape_of-tree3 c = c.clear-cleared.auto.tree3
 
 pub returns : goal.returns
 unfolding called_in called cleared_by settle granted

@@ -3,8 +3,10 @@ use native.Mathlib.Omega.{arith}
 use mathlib.Core.Path.{◌≡◌, refl, sym, ap, ◌∙◌}
 use mathlib.Core.Bool.{false}
 use lib.ListN.{length, take, length-take}
+use Rattle.std.specs.Prelude.{Result}
+use Rattle.refusals.specs.declared.Refusal.{Refusal as Refusal·}
+use Rattle.network.specs.declared.Loaded.{Loaded}
 use Rattle.mondschein.specs.Network.{Network}
-use Rattle.network.specs.declared.Load.{Load}
 use Rattle.network.specs.Load.{network_of, load_answer}
 use Rattle.records.specs.Records.{numbers_of}
 use Rattle.records.proofs.Records.{numbers_fit}
@@ -40,74 +42,26 @@ load-loaded-requires c =
     let right_lengths : wrong_lengths (length c.args.links.now) (length c.args.ducts.now) (length c.args.used.now) (length c.args.births.now) (length c.args.order.now) (length c.args.tree1.now) (length c.args.tree2.now) (length c.args.tree3.now) ≡ false = sym c.wrong_lengths.ensures ∙ c.if-wrong_lengths.false in
     sizes _ _ _ _ _ _ _ _ right_lengths
 
-pub shape_of-links-in-Refused : goal.shape_of-links-in-Refused
-shape_of-links-in-Refused c = c.load-loaded.auto.table
-
-pub shape_of-ducts-in-Refused : goal.shape_of-ducts-in-Refused
-shape_of-ducts-in-Refused c = c.load-loaded.auto.row
-
-pub shape_of-used-in-Refused : goal.shape_of-used-in-Refused
-shape_of-used-in-Refused c = c.load-loaded.auto.used
-
-pub shape_of-births-in-Refused : goal.shape_of-births-in-Refused
-shape_of-births-in-Refused c = c.load-loaded.auto.births
-
-pub shape_of-order-in-Refused : goal.shape_of-order-in-Refused
-shape_of-order-in-Refused c = c.load-loaded.auto.order
-
-pub shape_of-tree1-in-Refused : goal.shape_of-tree1-in-Refused
-shape_of-tree1-in-Refused c = c.load-loaded.auto.tree1
-
-pub shape_of-tree2-in-Refused : goal.shape_of-tree2-in-Refused
-shape_of-tree2-in-Refused c = c.load-loaded.auto.tree2
-
-pub shape_of-tree3-in-Refused : goal.shape_of-tree3-in-Refused
-shape_of-tree3-in-Refused c = c.load-loaded.auto.tree3
-
-pub returns-in-Refused : goal.returns-in-Refused
+pub returns-in-Err : goal.returns-in-Err
 unfolding called_in called
-returns-in-Refused c =
+returns-in-Err c =
     let held : Memory = memory_by (numbers_by c.args.stage.now c.args.n.now c.args.m.now c.args.root.now c.args.first.now c.args.last.now c.args.longs.now c.args.born.now) c.args.links.now c.args.ducts.now c.args.used.now c.args.births.now c.args.order.now c.args.tree1.now c.args.tree2.now c.args.tree3.now in
     let network : Network = network_of c.args.new_n (take (numbers_of c.args.count) c.args.flat.ends) c.args.new_root c.args.new_first c.args.new_last in
     let right_lengths : wrong_lengths (length c.args.links.now) (length c.args.ducts.now) (length c.args.used.now) (length c.args.births.now) (length c.args.order.now) (length c.args.tree1.now) (length c.args.tree2.now) (length c.args.tree3.now) ≡ false = sym c.wrong_lengths.ensures ∙ c.if-wrong_lengths.false in
-    let after : Session = session_in c.load-loaded.result.state c.load-loaded.new.table c.load-loaded.new.row c.load-loaded.new.used c.load-loaded.new.births c.load-loaded.new.order c.load-loaded.new.tree1 c.load-loaded.new.tree2 c.load-loaded.new.tree3 in
-    let answered : (x : Load) → c.load-loaded.result.answer ≡ x → record { answer = load_answer x; after = after } ≡ loaded_by (session_at held) network c.args.flat.ducts = λ x q. ap (λ (y : Load). record { answer = load_answer y; after = after }) (sym q) ∙ c.load-loaded.ensures.loads_in ∙ ap (λ (k : ℕ). loaded_by (session_in c.state_of-st.result c.args.links.now c.args.ducts.now c.args.used.now c.args.births.now c.args.order.now c.args.tree1.now c.args.tree2.now c.args.tree3.now) (network_of c.args.new_n (take k c.args.flat.ends) c.args.new_root c.args.new_first c.args.new_last) c.args.flat.ducts) c.numbers_of-numbers.ensures ∙ ap (λ (st : State). loaded_by (session_in st c.args.links.now c.args.ducts.now c.args.used.now c.args.births.now c.args.order.now c.args.tree1.now c.args.tree2.now c.args.tree3.now) network c.args.flat.ducts) c.state_of-st.ensures in
+    let after : Session = session_in c.load-loaded.new.st c.load-loaded.new.table c.load-loaded.new.row c.load-loaded.new.used c.load-loaded.new.births c.load-loaded.new.order c.load-loaded.new.tree1 c.load-loaded.new.tree2 c.load-loaded.new.tree3 in
+    let answered : (x : Result Loaded Refusal·) → c.load-loaded.result ≡ x → record { answer = load_answer x; after = after } ≡ loaded_by (session_at held) network c.args.flat.ducts = λ x q. ap (λ (y : Result Loaded Refusal·). record { answer = load_answer y; after = after }) (sym q) ∙ c.load-loaded.ensures.loads_in ∙ ap (λ (k : ℕ). loaded_by (session_in c.state_of-st.result c.args.links.now c.args.ducts.now c.args.used.now c.args.births.now c.args.order.now c.args.tree1.now c.args.tree2.now c.args.tree3.now) (network_of c.args.new_n (take k c.args.flat.ends) c.args.new_root c.args.new_first c.args.new_last) c.args.flat.ducts) c.numbers_of-numbers.ensures ∙ ap (λ (st : State). loaded_by (session_in st c.args.links.now c.args.ducts.now c.args.used.now c.args.births.now c.args.order.now c.args.tree1.now c.args.tree2.now c.args.tree3.now) network c.args.flat.ducts) c.state_of-st.ensures in
     (lengths_right _ _ 0 right_lengths
-    (refusing_call held _ after 0 (load_leaves _ _ _) (answered _ c.in-Refused.is) refl)
+    (refusing_call held _ after 0 (load_leaves _ _ _) (answered _ c.in-Err.is) c.from.ensures)
     ).returns
 
-pub shape_of-links-in-Loaded : goal.shape_of-links-in-Loaded
-shape_of-links-in-Loaded c = c.load-loaded.auto.table
-
-pub shape_of-ducts-in-Loaded : goal.shape_of-ducts-in-Loaded
-shape_of-ducts-in-Loaded c = c.load-loaded.auto.row
-
-pub shape_of-used-in-Loaded : goal.shape_of-used-in-Loaded
-shape_of-used-in-Loaded c = c.load-loaded.auto.used
-
-pub shape_of-births-in-Loaded : goal.shape_of-births-in-Loaded
-shape_of-births-in-Loaded c = c.load-loaded.auto.births
-
-pub shape_of-order-in-Loaded : goal.shape_of-order-in-Loaded
-shape_of-order-in-Loaded c = c.load-loaded.auto.order
-
-pub shape_of-tree1-in-Loaded : goal.shape_of-tree1-in-Loaded
-shape_of-tree1-in-Loaded c = c.load-loaded.auto.tree1
-
-pub shape_of-tree2-in-Loaded : goal.shape_of-tree2-in-Loaded
-shape_of-tree2-in-Loaded c = c.load-loaded.auto.tree2
-
-pub shape_of-tree3-in-Loaded : goal.shape_of-tree3-in-Loaded
-shape_of-tree3-in-Loaded c = c.load-loaded.auto.tree3
-
-pub returns-in-Loaded : goal.returns-in-Loaded
+pub returns-in-Ok : goal.returns-in-Ok
 unfolding called_in called
-returns-in-Loaded c =
+returns-in-Ok c =
     let held : Memory = memory_by (numbers_by c.args.stage.now c.args.n.now c.args.m.now c.args.root.now c.args.first.now c.args.last.now c.args.longs.now c.args.born.now) c.args.links.now c.args.ducts.now c.args.used.now c.args.births.now c.args.order.now c.args.tree1.now c.args.tree2.now c.args.tree3.now in
     let network : Network = network_of c.args.new_n (take (numbers_of c.args.count) c.args.flat.ends) c.args.new_root c.args.new_first c.args.new_last in
     let right_lengths : wrong_lengths (length c.args.links.now) (length c.args.ducts.now) (length c.args.used.now) (length c.args.births.now) (length c.args.order.now) (length c.args.tree1.now) (length c.args.tree2.now) (length c.args.tree3.now) ≡ false = sym c.wrong_lengths.ensures ∙ c.if-wrong_lengths.false in
-    let after : Session = session_in c.load-loaded.result.state c.load-loaded.new.table c.load-loaded.new.row c.load-loaded.new.used c.load-loaded.new.births c.load-loaded.new.order c.load-loaded.new.tree1 c.load-loaded.new.tree2 c.load-loaded.new.tree3 in
-    let answered : (x : Load) → c.load-loaded.result.answer ≡ x → record { answer = load_answer x; after = after } ≡ loaded_by (session_at held) network c.args.flat.ducts = λ x q. ap (λ (y : Load). record { answer = load_answer y; after = after }) (sym q) ∙ c.load-loaded.ensures.loads_in ∙ ap (λ (k : ℕ). loaded_by (session_in c.state_of-st.result c.args.links.now c.args.ducts.now c.args.used.now c.args.births.now c.args.order.now c.args.tree1.now c.args.tree2.now c.args.tree3.now) (network_of c.args.new_n (take k c.args.flat.ends) c.args.new_root c.args.new_first c.args.new_last) c.args.flat.ducts) c.numbers_of-numbers.ensures ∙ ap (λ (st : State). loaded_by (session_in st c.args.links.now c.args.ducts.now c.args.used.now c.args.births.now c.args.order.now c.args.tree1.now c.args.tree2.now c.args.tree3.now) network c.args.flat.ducts) c.state_of-st.ensures in
+    let after : Session = session_in c.load-loaded.new.st c.load-loaded.new.table c.load-loaded.new.row c.load-loaded.new.used c.load-loaded.new.births c.load-loaded.new.order c.load-loaded.new.tree1 c.load-loaded.new.tree2 c.load-loaded.new.tree3 in
+    let answered : (x : Result Loaded Refusal·) → c.load-loaded.result ≡ x → record { answer = load_answer x; after = after } ≡ loaded_by (session_at held) network c.args.flat.ducts = λ x q. ap (λ (y : Result Loaded Refusal·). record { answer = load_answer y; after = after }) (sym q) ∙ c.load-loaded.ensures.loads_in ∙ ap (λ (k : ℕ). loaded_by (session_in c.state_of-st.result c.args.links.now c.args.ducts.now c.args.used.now c.args.births.now c.args.order.now c.args.tree1.now c.args.tree2.now c.args.tree3.now) (network_of c.args.new_n (take k c.args.flat.ends) c.args.new_root c.args.new_first c.args.new_last) c.args.flat.ducts) c.numbers_of-numbers.ensures ∙ ap (λ (st : State). loaded_by (session_in st c.args.links.now c.args.ducts.now c.args.used.now c.args.births.now c.args.order.now c.args.tree1.now c.args.tree2.now c.args.tree3.now) network c.args.flat.ducts) c.state_of-st.ensures in
     (lengths_right _ _ 0 right_lengths
-    (granting_call held _ after 0 (answered _ c.in-Loaded.is) refl c.put_state.ensures)
+    (granting_call held _ after 0 (answered _ c.in-Ok.is) refl c.put_state.ensures)
     ).returns
