@@ -1,8 +1,10 @@
 -- The call of document 02, Note 4, which only reads a session: what it answers and leaves of the slice, for any session and any arguments;
 -- and the equation of the same call in place.
-use Rattle.std.specs.Prelude.{◌≡◌, List, [], ℕ, length, take}
-use Rattle.mondschein.specs.Judge.{Answer, given, refused}
+use Rattle.std.specs.Prelude.{◌≡◌, List, [], ℕ, length, take, Result, ⊤}
+use Rattle.mondschein.specs.Judge.{Answer, refused}
 use Rattle.mondschein.specs.Outcome.{Outcome, written}
+use Rattle.refusals.specs.declared.Refusal.{Refusal}
+use Rattle.refusals.specs.Refusals.{answer_of}
 use Rattle.in_place.specs.declared.State.{State}
 use Rattle.in_place.specs.declared.Session.{Session}
 use Rattle.in_place.specs.Session.{by_stage}
@@ -10,13 +12,10 @@ use Rattle.in_place.specs.InPlace.{session_in}
 use Rattle.session.specs.Program.{kept_order}
 use Rattle.zones.specs.Cut.{birth_in, zones_by}
 use Rattle.zones.specs.Sizing.{sizing}
-use Rattle.zoning.specs.declared.Zoned.{Zoned}
-use Rattle.zoning.specs.declared.Zoned.TheVariants.{Written, Refused}
 
 -- document 02's values and numbers for each answer: zones give none
-abbrev pub zoned_answer : Zoned → Answer
-zoned_answer Written = given []
-zoned_answer (Refused num place) = refused num place
+abbrev pub zoned_answer : Result ⊤ Refusal → Answer
+zoned_answer = answer_of (λ _. [])
 
 -- the zones of a session by switch number, found from its order and the births of its N switches
 unfoldable pub zones_in : Session → ℕ → ℕ → List ℕ
@@ -27,7 +26,7 @@ unfoldable pub zoned_by : Session → ℕ → ℕ → ℕ → List ℕ → Outco
 zoned_by s n₁ n₂ n₃ out = written (zones_in s n₁ n₂) out (by_stage s.stage (refused 19 0) (refused 21 0) (sizing s.n n₁ n₂ n₃ out))
 
 -- the call in place, whatever the arrays beside births and order hold
-abbrev pub ZonesIn : State → List ℕ → List ℕ → ℕ → ℕ → ℕ → List ℕ → Zoned → List ℕ → Type 0
+abbrev pub ZonesIn : State → List ℕ → List ℕ → ℕ → ℕ → ℕ → List ℕ → Result ⊤ Refusal → List ℕ → Type 0
 ZonesIn st births order n₁ n₂ n₃ out r out' =
     (links ducts used tree1 tree2 tree3 : List ℕ)
     → record { answer = zoned_answer r; after = out' } ≡ zoned_by (session_in st links ducts used births order tree1 tree2 tree3) n₁ n₂ n₃ out
