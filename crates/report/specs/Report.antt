@@ -1,9 +1,12 @@
 -- The call of document 02, Note 7, that adds a session to a report: what it answers and leaves of the report, for any report and any session;
 -- and the equation of the same call in place. The session is only read.
-use Rattle.std.specs.Prelude.{◌≡◌, List, [], ℕ, suc, ◌*◌, min, eqb, length, take, replicate}
+use Rattle.std.specs.Prelude.{◌≡◌, List, [], ℕ, suc, ◌*◌, min, eqb, length, take, replicate, Result}
+use Rattle.std.specs.Result.{result_unwrap_or}
 use Rattle.mondschein.specs.Network.{at}
 use Rattle.mondschein.specs.Judge.{Answer, given, refused, check}
 use Rattle.mondschein.specs.Outcome.{Outcome, settle}
+use Rattle.refusals.specs.declared.Refusal.{Refusal}
+use Rattle.refusals.specs.Refusals.{answer_of}
 use Rattle.machine.specs.Machine.{Call}
 use Rattle.losses.specs.Statements.{report_after, added_after}
 use Rattle.in_place.specs.declared.State.{State}
@@ -12,8 +15,6 @@ use Rattle.in_place.specs.Session.{by_stage}
 use Rattle.in_place.specs.InPlace.{session_in}
 use Rattle.session.specs.Program.{session_program}
 use Rattle.reporting.specs.Reporting.{Trees, trees_of, losses_after}
-use Rattle.report.specs.declared.Added.{Added}
-use Rattle.report.specs.declared.Added.TheVariants.{Sessions, Refused}
 use Rattle.report.specs.declared.Report.{Report}
 use Rattle.report.specs.declared.Adding.{Adding}
 
@@ -49,20 +50,18 @@ unfoldable pub reported_by : Report → Session → Outcome Report
 reported_by r s = settle r (report_with r s) (by_stage s.stage (refused 19 0) (refused 21 0) (full r.sessions))
 
 -- document 02's numbers for each answer, and how many sessions are added after it
-abbrev pub added_answer : Added → Answer
-added_answer (Sessions k) = given []
-added_answer (Refused num place) = refused num place
+abbrev pub added_answer : Result ℕ Refusal → Answer
+added_answer = answer_of (λ _. [])
 
-abbrev pub sessions_after : Added → ℕ → ℕ
-sessions_after (Sessions k) sessions = k
-sessions_after (Refused num place) sessions = sessions
+abbrev pub sessions_after : Result ℕ Refusal → ℕ → ℕ
+sessions_after = result_unwrap_or
 
 -- what the call by value answers and leaves
 abbrev pub adding_outcome : Adding → Outcome Report
 adding_outcome a = record { answer = added_answer a.answer; after = a.report }
 
 -- the call in place, whatever the arrays hold that it does not ask for
-abbrev pub AddsIn : ℕ → List ℕ → List ℕ → State → List ℕ → List ℕ → List ℕ → List ℕ → List ℕ → Added → List ℕ → List ℕ → Type 0
+abbrev pub AddsIn : ℕ → List ℕ → List ℕ → State → List ℕ → List ℕ → List ℕ → List ℕ → List ℕ → Result ℕ Refusal → List ℕ → List ℕ → Type 0
 AddsIn sessions two three st links ducts tree1 tree2 tree3 r two' three' =
     (used births order : List ℕ)
     → record { answer = added_answer r; after = report_of (sessions_after r sessions) two' three' }

@@ -2,19 +2,14 @@
 // all its links fail, over the closed sessions added one after another. It is a state apart from the session, which is only read.
 #![tactic(auto)]
 
-ghost use Rattle.std.specs.Prelude.{◌≡◌, min};
-ghost use Rattle.report.specs.Report.{empty_report, reported_by, sessions_after, adding_outcome, AddsIn};
+ghost use Rattle.std.specs.Prelude.{◌≡◌};
+ghost use Rattle.report.specs.Report.{empty_report, reported_by, adding_outcome, AddsIn};
 
-use in_place::{Session, Stage, State};
-
-// The answer to adding a session: how many are added now, or a refusal's number and place.
-#[derive(Clone, Copy)]
-pub enum Added {
-    Sessions(u16),
-    Refused(u8, u16),
-}
+use in_place::{Session, State};
+use refusals::Refusal;
 
 // How many sessions are added, and by duct how many of their switches lose exactly two walks, and all three; nothing stands at duct 0.
+// The two rows stay apart: they are the layout of the C interface's struct, and each is lent alone.
 #[derive(Clone, Copy)]
 pub struct Report {
     pub sessions: u16,
@@ -35,21 +30,11 @@ impl Report {
     }
 }
 
-// What adding a session answers, and the report after it.
+// What adding a session answers, how many are added now where it is granted, and the report after it.
 #[derive(Clone, Copy)]
 pub struct Adding {
-    pub answer: Added,
+    pub answer: Result<u16, Refusal>,
     pub report: Report,
-}
-
-// N, and 1,024 where a session says more, which no calls leave.
-fn switches_of(n: u16) -> u16
-    ensures { result ≡ min n 1024 }
-{
-    if n < Session::MAX_SWITCHES {
-        return n;
-    }
-    Session::MAX_SWITCHES
 }
 
 // Adds a closed session to a report whose sums are lent, and to which so many are added already: 19 on an empty session, 21 on an open one,
@@ -64,65 +49,37 @@ pub fn add_in(
     tree1: &[u16],
     tree2: &[u16],
     tree3: &[u16],
-) -> Added
+) -> Result<u16, Refusal>
     ensures { AddsIn sessions two.old three.old st links.now ducts.now tree1.now tree2.now tree3.now result two.new three.new }
 {
-    let stage = st.stage;
-    let Stage::Closed = stage else {
-        return match stage {
-            Stage::Empty => Added::Refused(19, 0),
-            Stage::Open => Added::Refused(21, 0),
-            Stage::Closed => Added::Refused(21, 0),
-        };
-    };
+    st.stage.require_closed()?;
     if sessions == 65535 {
-        return Added::Refused(25, 0);
+        return Err(Refusal::ReportFull);
     }
-    let switches = switches_of(st.n);
-    let table = &links[..rows::least(2 * (st.m as usize), links.len())];
+    // N, and 1,024 where a session says more, which no calls leave.
+    let switches = st.n.min(Session::MAX_SWITCHES);
+    let table = in_place::stored(st.m, links);
     reporting::add_losses(
         switches, st.root, table, ducts, tree1, tree2, tree3, two, three,
     );
-    Added::Sessions(sessions + 1)
-}
-
-// How many sessions are added after an answer.
-fn sessions_after(answer: Added, sessions: u16) -> u16
-    ensures { result ≡ sessions_after answer sessions }
-{
-    match answer {
-        Added::Sessions(k) => k,
-        Added::Refused(_, _) => sessions,
-    }
+    Ok(sessions + 1)
 }
 
 // The same, of a report and a session by value.
-pub fn add(r: Report, s: Session) -> Adding
+pub fn add(mut r: Report, s: Session) -> Adding
     ensures { adding_outcome result ≡ reported_by r s }
 {
-    let mut two = r.two;
-    let mut three = r.three;
-    let links = s.links;
-    let ducts = s.ducts;
-    let tree1 = s.tree1;
-    let tree2 = s.tree2;
-    let tree3 = s.tree3;
     let answer = add_in(
         r.sessions,
-        &mut two,
-        &mut three,
-        session::state_of(s),
-        &links,
-        &ducts,
-        &tree1,
-        &tree2,
-        &tree3,
+        &mut r.two,
+        &mut r.three,
+        s.state(),
+        &s.links,
+        &s.ducts,
+        &s.tree1,
+        &s.tree2,
+        &s.tree3,
     );
-    let sessions = sessions_after(answer, r.sessions);
-    let report = Report {
-        sessions,
-        two,
-        three,
-    };
-    Adding { answer, report }
+    r.sessions = answer.unwrap_or(r.sessions);
+    Adding { answer, report: r }
 }
