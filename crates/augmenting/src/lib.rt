@@ -201,6 +201,7 @@ fn attempt(
 {
     let mut previous = [0u16; 1024];
     let mut mark = [0u8; 1024];
+    // The entries of a search stand in two arrays of fixed length, as `Explored` of the definition has them in two lists.
     let mut heads = [0u16; 1024];
     let mut lefts = [0u16; 1024];
     invert(next, k, &mut previous);

@@ -36,15 +36,11 @@ pub enum Routes {
     Parted(Things),
 }
 
-// The matching to begin with: every number is followed by itself. Before that 1,027 stands for no number.
+// The matching to begin with: every number is followed by itself.
 fn selves() -> [u16; 1027]
     ensures { result ≡ selves }
 {
-    let mut next = [1027u16; 1027];
-    for (u, number) in next.iter_mut().enumerate() {
-        *number = u as u16;
-    }
-    next
+    std::array::from_fn(|u| u as u16)
 }
 
 // Writes the walk that begins with copy u, from a place on. Gives the place after it.

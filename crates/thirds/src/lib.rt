@@ -57,14 +57,8 @@ fn follow_half(row: &mut [u16], dist: &mut [u16], n: u16, links: &[u16], h: usiz
     ensures { FollowsHalf n links.now h row.old dist.old row.new dist.new }
 {
     let x = network::far_end(links, h);
-    if n <= x {
-        return;
-    }
-    if 1024 <= x {
-        return;
-    }
     let v = links[h] as usize;
-    if 1024 <= v {
+    if n <= x || 1024 <= x || 1024 <= v {
         return;
     }
     let near = dist[x as usize];
