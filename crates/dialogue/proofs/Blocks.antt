@@ -1,9 +1,9 @@
 -- Laws of a line that ends and has what it asks of the session, and of a block that is taken line by line, its replies one after another
 -- in a slice: where it stands between two lines, and where it ends.
 use mathlib.Core.Path.{◌≡◌, refl, sym, ap, ◌∙◌}
-use mathlib.Core.Logic.{◌⊎◌, inl, inr}
+use mathlib.Core.Logic.{◌⊎◌, inr}
 use mathlib.Core.Bool.{Bool, true, false, cond}
-use mathlib.Core.List.{List, [], ◌++◌, foldl, append_assoc, append-nil}
+use mathlib.Core.List.{List, [], ◌++◌, foldl, append_assoc}
 use Prim.Native.Nat.{ℕ, min, ◌+◌, ◌-◌, ◌≤◌, ◌<◌}
 use native.Mathlib.Omega.{arith}
 use lib.ListN.{length, take, drop, drop_of_length-le, length-drop}
@@ -29,9 +29,6 @@ pub record StandsAt (start : Reader Dialogue) (block : List ℕ) (r : Code-as-Re
   pub leads : left start block ≡ left (reader_in r s links ducts line []) (drop from block)
 
 module _ {start : Reader Dialogue} {block : List ℕ} {r : Code-as-Reader} {s : Session} {links ducts line : List ℕ} {from : ℕ} (at : StandsAt start block r s links ducts line from) where
-  pub stands_end : length block ≤ from → reader_in r s links ducts line [] ≡ left start block
-  stands_end h = sym (at.leads ∙ ap (left (reader_in r s links ducts line [])) (drop_of_length-le block {i = from} h))
-
   pub stands_lines : (x : Code-as-Reader) (s' : Session) (links' ducts' line' : List ℕ) (next : ℕ) (output : List ℕ)
       → TakesLines r s links ducts line block from x s' links' ducts' line' next output → StandsAt start block x s' links' ducts' line' next
   stands_lines x s' links' ducts' line' next output t =
@@ -62,17 +59,6 @@ pub record Reached (r₀ : Code-as-Reader) (s₀ : Session) (links₀ ducts₀ l
   pub onward : from ≤ next
   pub begun : (written ≡ 0) ⊎ (from < next)
   pub keeps : Keeps written out₀ out
-
--- no line is taken
-pub reached_begin : (r : Code-as-Reader) (s : Session) (links ducts line block : List ℕ) (from : ℕ) (out : List ℕ) → from ≤ length block → Reached r s links ducts line block from out r s links ducts line from out 0
-reached_begin r s links ducts line block from out h = record {
-  taken = λ printed. ap (λ (l : List ℕ). foldl (fed turn) (reader_in r s links ducts line l) (drop from block)) (sym (append-nil printed));
-  within = h;
-  room = omega arith;
-  onward = omega arith;
-  begun = inl refl;
-  keeps = refl;
-}
 
 -- what is known with the bytes that a block leaves of a line
 abbrev pub holding : Code-as-Reader → Held → Code-as-Reader

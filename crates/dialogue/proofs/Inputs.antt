@@ -1,19 +1,18 @@
 -- The end of an input, and the whole of it: whatever the pieces in which its blocks are taken, what is printed is what threeways prints
 -- for their bytes.
-use mathlib.Core.Path.{◌≡◌, refl, sym, ap, ap₂, ◌∙◌}
+use mathlib.Core.Path.{◌≡◌, refl, sym, ap, ◌∙◌}
 use mathlib.Core.Bool.{Bool, true}
 use mathlib.Core.List.{List, [], ◌∷◌, ◌++◌, foldl, append_assoc, append-nil, foldl-append}
 use Prim.Native.Nat.{ℕ, ◌≤◌, ◌<◌}
 use native.Mathlib.Omega.{arith}
 use lib.ListN.{length, take, drop, drop_of_length-le, length-take}
 use Rattle.in_place.specs.declared.Session.{Session}
-use Rattle.in_place.specs.Session.{empty_session}
 use Rattle.collect.specs.declared.Reader.{Reader as Code-as-Reader}
 use Rattle.transcript.specs.Transcript.{Reader, unprinted, over, started, fed, finished}
 use Rattle.transcript.proofs.Transcripts.{stays_over, finished_feed, finished_none}
 use Rattle.transcript.proofs.Printing.{unprinted_foldl, unprinted_finished}
 use Rattle.collect.specs.Dialogue.{Dialogue, fresh, turn}
-use Rattle.collect.specs.Answering.{reader_in, Over, start_reader}
+use Rattle.collect.specs.Answering.{reader_in, Over}
 use Rattle.collect.proofs.Threeways.{prints_threeways}
 use Rattle.dialogue.specs.Taking.{TakesLines, Finishes, Takes, from_start, Led, LedOver, LedToEnd, joined, Taken, start, call, another, PrintsBlocks, PrintsEarly}
 
@@ -62,10 +61,6 @@ prints_early blocks block at r s links ducts line output t q following =
     sym (ap (λ (k : Reader Dialogue). k.output) (ap (finished turn) (ap (λ (x : Reader Dialogue). foldl (fed turn) x following) (leads t ∙ stays.0 (drop at block)) ∙ stays.0 following) ∙ stays.1))
     ∙ sym (ap (λ (k : Reader Dialogue). (finished turn k).output) (foldl-append (fed turn) (started turn fresh) (joined blocks ++ block) following))
     ∙ prints_threeways fresh ((joined blocks ++ block) ++ following)
-
--- before the first block
-pub led_start : (links ducts line : List ℕ) (r : Code-as-Reader) (s : Session) → r ≡ start_reader → s ≡ empty_session → Led r s links ducts line
-led_start links ducts line r s q e = record { input = []; known = ap₂ (λ (x : Code-as-Reader) (y : Session). reader_in x y links ducts line []) q e }
 
 module _ {r : Code-as-Reader} {s : Session} {links ducts line : List ℕ} (l : Led r s links ducts line) where
   -- one more block

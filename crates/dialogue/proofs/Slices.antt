@@ -1,6 +1,6 @@
 -- Laws of the lent slices: one whose part from a place on was lent and has come back, and what the lines of a block leave of all.
 -- Replies stand one after another in one of them; past them it holds what it held.
-use mathlib.Core.Path.{◌≡◌, refl, sym, ap, ◌∙◌}
+use mathlib.Core.Path.{◌≡◌, sym, ap, ◌∙◌}
 use mathlib.Core.Logic.{⊎_elim}
 use mathlib.Core.List.{List, ◌++◌, append-nil}
 use Prim.Native.Nat.{ℕ, min, ◌+◌, ◌-◌, ◌≤◌}
@@ -88,28 +88,6 @@ pub record Lent (line₀ numbers₀ links₀ ducts₀ out₀ line numbers links 
   pub out_same : length out ≡ length out₀
   pub numbers_kept : Keeps 3072 numbers₀ numbers
 
-pub lent_begin : (line numbers links ducts out : List ℕ) → length line ≡ 6145 → 3072 ≤ length numbers → length links ≡ 8192 → length ducts ≡ 4096 → 8192 ≤ length out
-    → Lent line numbers links ducts out line numbers links ducts out
-lent_begin line numbers links ducts out a b c f d =
-    record { line_long = a; numbers_long = b; links_long = c; ducts_long = f; out_long = d; line_same = refl; numbers_same = refl; links_same = refl; ducts_same = refl; out_same = refl; numbers_kept = refl }
-
-pub lent_again : {line₀ numbers₀ links₀ ducts₀ out₀ line numbers links ducts out : List ℕ} → Lent line₀ numbers₀ links₀ ducts₀ out₀ line numbers links ducts out → (line' numbers' links' ducts' out' : List ℕ)
-    → length line' ≡ length line → length numbers' ≡ length numbers → length links' ≡ length links → length ducts' ≡ length ducts → length out' ≡ length out → Keeps 3072 numbers numbers'
-    → Lent line₀ numbers₀ links₀ ducts₀ out₀ line' numbers' links' ducts' out'
-lent_again l line' numbers' links' ducts' out' a b c f d e = record {
-  line_long = a ∙ l.line_long;
-  numbers_long = omega (arith, b, l.numbers_long);
-  links_long = c ∙ l.links_long;
-  ducts_long = f ∙ l.ducts_long;
-  out_long = omega (arith, d, l.out_long);
-  line_same = a ∙ l.line_same;
-  numbers_same = b ∙ l.numbers_same;
-  links_same = c ∙ l.links_same;
-  ducts_same = f ∙ l.ducts_same;
-  out_same = d ∙ l.out_same;
-  numbers_kept = e ∙ l.numbers_kept;
-}
-
 -- the session's arrays have their lengths, and the index the one that it had
 pub record Stored (l₀ d₀ u₀ b₀ o₀ p₀ q₀ t₀ i₀ l d u b o p q t i : List ℕ) : Type 0 where
   pub sized : SizedAs l d u b o p q t
@@ -122,43 +100,3 @@ pub record Stored (l₀ d₀ u₀ b₀ o₀ p₀ q₀ t₀ i₀ l d u b o p q t 
   pub tree2_same : length q ≡ length q₀
   pub tree3_same : length t ≡ length t₀
   pub index_same : length i ≡ length i₀
-
-pub stored_begin : (l d u b o p q t i : List ℕ) → SizedAs l d u b o p q t → Stored l d u b o p q t i l d u b o p q t i
-stored_begin l d u b o p q t i z = record {
-  sized = z;
-  table_same = refl;
-  row_same = refl;
-  used_same = refl;
-  births_same = refl;
-  order_same = refl;
-  tree1_same = refl;
-  tree2_same = refl;
-  tree3_same = refl;
-  index_same = refl;
-}
-
-pub stored_again : {l₀ d₀ u₀ b₀ o₀ p₀ q₀ t₀ i₀ l d u b o p q t i : List ℕ} → Stored l₀ d₀ u₀ b₀ o₀ p₀ q₀ t₀ i₀ l d u b o p q t i → (l' d' u' b' o' p' q' t' i' : List ℕ)
-    → length l' ≡ length l → length d' ≡ length d → length u' ≡ length u → length b' ≡ length b → length o' ≡ length o → length p' ≡ length p → length q' ≡ length q → length t' ≡ length t → length i' ≡ length i
-    → Stored l₀ d₀ u₀ b₀ o₀ p₀ q₀ t₀ i₀ l' d' u' b' o' p' q' t' i'
-stored_again z l' d' u' b' o' p' q' t' i' el ed eu eb eo ep eq et ei = record {
-  sized =
-      record {
-        links = el ∙ z.sized.links;
-        ducts = ed ∙ z.sized.ducts;
-        used = eu ∙ z.sized.used;
-        births = eb ∙ z.sized.births;
-        order = eo ∙ z.sized.order;
-        tree1 = ep ∙ z.sized.tree1;
-        tree2 = eq ∙ z.sized.tree2;
-        tree3 = et ∙ z.sized.tree3;
-      };
-  table_same = el ∙ z.table_same;
-  row_same = ed ∙ z.row_same;
-  used_same = eu ∙ z.used_same;
-  births_same = eb ∙ z.births_same;
-  order_same = eo ∙ z.order_same;
-  tree1_same = ep ∙ z.tree1_same;
-  tree2_same = eq ∙ z.tree2_same;
-  tree3_same = et ∙ z.tree3_same;
-  index_same = ei ∙ z.index_same;
-}

@@ -14,8 +14,7 @@ use in_place::State;
 pub fn reply(out: &[u8], written: usize) -> &[u8]
     ensures { result.now ≡ take written out.now }
 {
-    let count = rows::least(written, out.len());
-    &out[..count]
+    &out[..written.min(out.len())]
 }
 
 // What is known where the lines of a block have been taken, the state of the session there, the place in the block, and the count of
@@ -59,6 +58,7 @@ pub fn take_lines(
     let mut state = st;
     let mut next = from;
     let mut written = 0;
+    // A cursor follows the lines of the block, so the turns are no count.
     while next < block.len() {
         if collect::over(reader) {
             next = block.len();
@@ -93,7 +93,7 @@ pub fn take_lines(
         );
         reader = called.reader;
         state = called.state;
-        written += rows::least(called.written, out.len() - written);
+        written += called.written.min(out.len() - written);
     }
     Taken {
         reader,
@@ -141,16 +141,13 @@ pub fn finish(
             written: 0,
         };
     }
-    let feed = [b'\n'; 1];
     let taken = take_lines(
-        r, st, &feed, 0, line, numbers, links, ducts, table, row, used, births, order, tree1,
+        r, st, b"\n", 0, line, numbers, links, ducts, table, row, used, births, order, tree1,
         tree2, tree3, index, out,
     );
-    let reader = taken.reader;
-    let state = taken.state;
     Finished {
-        reader,
-        state,
+        reader: taken.reader,
+        state: taken.state,
         written: taken.written,
     }
 }
