@@ -6,7 +6,7 @@ ghost use Rattle.std.specs.Prelude.{◌≡◌, ◌≤◌, IfSome, length};
 ghost use Rattle.in_place.specs.InPlace.{session_in, SizedAs};
 ghost use Rattle.blocks.specs.Running.{EndsWith};
 
-use blocks::{End, Ended};
+use blocks::{End, Ended, Known};
 use collect::Reader;
 use in_place::Session;
 use std::io::{Read, Stdin};
@@ -15,14 +15,11 @@ use std::io::{Read, Stdin};
 fn read_block(mut input: Stdin, block: &mut [u8]) -> Option<usize>
     ensures { IfSome result (λ n. n ≤ length block.new) }
 {
-    match input.read(block) {
-        Ok(n) => Some(n),
-        Err(_) => None,
-    }
+    input.read(block).ok()
 }
 
 // Reads blocks to the end of the input, or until no more is read, or a read or a write fails.
-// A proved loop has to end, and nothing says that an input does: it counts its turns down from a number that no run uses up.
+// A proved loop has to end, and nothing says that an input does: it counts its turns up to a number that no run reaches.
 fn run(
     input: Stdin,
     line: &mut [u8],
@@ -43,11 +40,12 @@ fn run(
     requires { (length line.old ≡ 6145) × (3072 ≤ length numbers.old) × (length links.old ≡ 8192) × (length ducts.old ≡ 4096) × (8192 ≤ length out.old) × SizedAs table.old row.old used.old births.old order.old tree1.old tree2.old tree3.old }
     ensures { EndsWith result.end result.reader (session_in result.state table.new row.new used.new births.new order.new tree1.new tree2.new tree3.new) links.new ducts.new line.new }
 {
-    let mut reader = Reader::start();
-    let mut state = loading::clear(table, row, used, births, order, tree1, tree2, tree3, index);
-    let mut turns = u64::MAX;
-    while 0 < turns {
-        turns -= 1;
+    let mut known = Known {
+        reader: Reader::start(),
+        state: loading::clear(table, row, used, births, order, tree1, tree2, tree3, index),
+    };
+    for _turn in 0..u64::MAX {
+        let Known { reader, state } = known;
         let mut block = io::buffer();
         let Some(n) = read_block(input, &mut block) else {
             break;
@@ -58,42 +56,29 @@ fn run(
                 tree2, tree3, index, out,
             );
         }
-        let known = blocks::take_block(
-            reader,
-            state,
-            &block[..n],
-            line,
-            numbers,
-            links,
-            ducts,
-            table,
-            row,
-            used,
-            births,
-            order,
-            tree1,
-            tree2,
-            tree3,
-            index,
-            out,
-        );
-        reader = known.reader;
-        state = known.state;
-        if !known.written {
+        let bytes = &block[..n];
+        known = match blocks::take_block(
+            reader, state, bytes, line, numbers, links, ducts, table, row, used, births, order,
+            tree1, tree2, tree3, index, out,
+        ) {
+            Ok(known) => known,
+            Err(Known { reader, state }) => {
+                return Ended {
+                    reader,
+                    state,
+                    end: End::NotWritten,
+                };
+            }
+        };
+        if collect::over(known.reader) {
             return Ended {
-                reader,
-                state,
-                end: End::NotWritten,
-            };
-        }
-        if collect::over(reader) {
-            return Ended {
-                reader,
-                state,
+                reader: known.reader,
+                state: known.state,
                 end: End::Over,
             };
         }
     }
+    let Known { reader, state } = known;
     Ended {
         reader,
         state,
