@@ -8,8 +8,11 @@ use Rattle.in_place.specs.declared.State.{State}
 use Rattle.in_place.specs.InPlace.{session_in}
 use Rattle.disjoint.specs.Replies.{Told}
 use Rattle.routing.specs.declared.Loss.{Loss}
-use Rattle.routing.specs.declared.Between.{Between}
-use Rattle.routing.specs.declared.Between.TheVariants.{Walks, Parted, Refused}
+use Rattle.std.specs.Prelude.{Result, Ok, Err}
+use Rattle.refusals.specs.declared.Refusal.{Refusal}
+use Rattle.refusals.specs.Refusals.{number, place}
+use Rattle.routing.specs.declared.Routes.{Routes}
+use Rattle.routing.specs.declared.Routes.TheVariants.{Walks, Parted}
 use Rattle.routing.specs.declared.Things.{Things}
 use Rattle.routing.specs.declared.Things.TheVariants.{Nothing, One, Two}
 use Rattle.routing.specs.Answers.{thing_of, reply_of}
@@ -20,33 +23,33 @@ use Rattle.memory_routes.specs.declared.Routed.{Routed}
 use Rattle.memory_routes.specs.Routes.{routed_by, part_of, no_part, first_of, second_of, parted_by, routed_of, sized_told, Shows}
 
 -- an answer in numbers
-abbrev numbered : Between → Routed
+abbrev numbered : Result Routes Refusal → Routed
 numbered answer = routed_of (reply_of answer)
 
-module _ {answer : Between} {r : Routed} where
-  pub walks_told : (a b c : ℕ) → answer ≡ Walks a b c → r ≡ routed_by 0 0 a b c 0 0 0 0 0 → r ≡ numbered answer
+module _ {answer : Result Routes Refusal} {r : Routed} where
+  pub walks_told : (a b c : ℕ) → answer ≡ Ok (Walks a b c) → r ≡ routed_by 0 0 a b c 0 0 0 0 0 → r ≡ numbered answer
   unfolding routed_of
   walks_told a b c e q = q ∙ sym (ap numbered e)
 
-  pub refusal_told : (num place : ℕ) → answer ≡ Refused num place → r ≡ routed_by num place 0 0 0 0 0 0 0 0 → r ≡ numbered answer
+  pub refusal_told : (e : Refusal) → answer ≡ Err e → r ≡ routed_by (number e) (place e) 0 0 0 0 0 0 0 0 → r ≡ numbered answer
   unfolding routed_of
-  refusal_told num place e q = q ∙ sym (ap numbered e)
+  refusal_told refusal e q = q ∙ sym (ap numbered e)
 
-  pub things_told : (xs : Things) → answer ≡ Parted xs → r ≡ numbered (Parted xs) → r ≡ numbered answer
+  pub things_told : (xs : Things) → answer ≡ Ok (Parted xs) → r ≡ numbered (Ok (Parted xs)) → r ≡ numbered answer
   things_told xs e q = q ∙ sym (ap numbered e)
 
 module _ {xs : Things} {r : Routed} {one two : Part} where
-  pub none_told : xs ≡ Nothing → one ≡ no_part → two ≡ no_part → r ≡ parted_by 0 one two → r ≡ numbered (Parted xs)
+  pub none_told : xs ≡ Nothing → one ≡ no_part → two ≡ no_part → r ≡ parted_by 0 one two → r ≡ numbered (Ok (Parted xs))
   unfolding routed_of first_of second_of
-  none_told e x y q = q ∙ ap₂ (parted_by 0) x y ∙ sym (ap (λ (z : Things). numbered (Parted z)) e)
+  none_told e x y q = q ∙ ap₂ (parted_by 0) x y ∙ sym (ap (λ (z : Things). numbered (Ok (Parted z))) e)
 
-  pub one_told : (a : Loss) → xs ≡ One a → one ≡ part_of (thing_of a) → two ≡ no_part → r ≡ parted_by 1 one two → r ≡ numbered (Parted xs)
+  pub one_told : (a : Loss) → xs ≡ One a → one ≡ part_of (thing_of a) → two ≡ no_part → r ≡ parted_by 1 one two → r ≡ numbered (Ok (Parted xs))
   unfolding routed_of first_of second_of
-  one_told a e x y q = q ∙ ap₂ (parted_by 1) x y ∙ sym (ap (λ (z : Things). numbered (Parted z)) e)
+  one_told a e x y q = q ∙ ap₂ (parted_by 1) x y ∙ sym (ap (λ (z : Things). numbered (Ok (Parted z))) e)
 
-  pub two_told : (a b : Loss) → xs ≡ Two a b → one ≡ part_of (thing_of a) → two ≡ part_of (thing_of b) → r ≡ parted_by 2 one two → r ≡ numbered (Parted xs)
+  pub two_told : (a b : Loss) → xs ≡ Two a b → one ≡ part_of (thing_of a) → two ≡ part_of (thing_of b) → r ≡ parted_by 2 one two → r ≡ numbered (Ok (Parted xs))
   unfolding routed_of first_of second_of
-  two_told a b e x y q = q ∙ ap₂ (parted_by 2) x y ∙ sym (ap (λ (z : Things). numbered (Parted z)) e)
+  two_told a b e x y q = q ∙ ap₂ (parted_by 2) x y ∙ sym (ap (λ (z : Things). numbered (Ok (Parted z))) e)
 
 -- what is told of a session in one state is told of it in the same state by another name
 pub told_of_lem : {st st' : State} {told : Told} → st ≡ st' → (links ducts used births order tree1 tree2 tree3 : List ℕ) (from to : ℕ) (out : List ℕ)
@@ -66,7 +69,7 @@ module _ (out : List ℕ) (told : Told) {wrong : Bool} {r : Routed} where
   unfolding sized_told routed_of
   links_wrong e q = subst (λ (x : Bool). Shows (sized_told x out told) r out) (sym e) (record { routed = q; left = refl })
 
-  pub links_right : (answer : Between) {after : List ℕ} → wrong ≡ false → record { reply = reply_of answer; after = after } ≡ told
+  pub links_right : (answer : Result Routes Refusal) {after : List ℕ} → wrong ≡ false → record { reply = reply_of answer; after = after } ≡ told
       → r ≡ numbered answer → Shows (sized_told wrong out told) r after
   unfolding sized_told
   links_right answer {after} e w q =

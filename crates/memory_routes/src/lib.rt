@@ -3,13 +3,13 @@
 #![tactic(auto)]
 
 ghost use Rattle.std.specs.Prelude.{◌≡◌};
-ghost use Rattle.routing.specs.declared.Between.TheVariants.{Parted};
+ghost use Rattle.routing.specs.declared.Routes.TheVariants.{Parted};
 ghost use Rattle.routing.specs.Answers.{thing_of, reply_of};
 ghost use Rattle.memory.specs.Memory.{numbers_by, memory_by};
 ghost use Rattle.memory_routes.specs.Routes.{routed_by, part_of, parted_by, routed_of, WritesRoutes};
 
-use memory::{LENGTHS, MARKS, ROW};
-use routing::{Between, Loss, Things};
+use memory::{MARKS, ROW, Refusal};
+use routing::{Loss, Routes, Things};
 
 // The kinds of things; 0 stands where there is none.
 pub const SWITCH: u16 = 1;
@@ -48,6 +48,7 @@ fn no_part() -> Part
 }
 
 // The numbers of a thing.
+#[tactic(auto, unfolding(crate::specs::Routes::part_of))]
 fn part_of(loss: Loss) -> Part
     ensures { result ≡ part_of (thing_of loss) }
 {
@@ -63,21 +64,28 @@ fn part_of(loss: Loss) -> Part
     }
 }
 
+// No refusal, no walks and no things.
+const NOTHING_TOLD: Routed = Routed {
+    number: 0,
+    place: 0,
+    walk1: 0,
+    walk2: 0,
+    walk3: 0,
+    things: 0,
+    kind1: 0,
+    thing1: 0,
+    kind2: 0,
+    thing2: 0,
+};
+
 // A refusal: all other fields are 0.
-fn refused(number: u8, place: u16) -> Routed
-    ensures { result ≡ routed_by number place 0 0 0 0 0 0 0 0 }
+fn refused(refusal: Refusal) -> Routed
+    ensures { result ≡ routed_by refusal.number refusal.place 0 0 0 0 0 0 0 0 }
 {
     Routed {
-        number,
-        place,
-        walk1: 0,
-        walk2: 0,
-        walk3: 0,
-        things: 0,
-        kind1: 0,
-        thing1: 0,
-        kind2: 0,
-        thing2: 0,
+        number: refusal.number,
+        place: refusal.place,
+        ..NOTHING_TOLD
     }
 }
 
@@ -86,16 +94,10 @@ fn walks(walk1: u16, walk2: u16, walk3: u16) -> Routed
     ensures { result ≡ routed_by 0 0 walk1 walk2 walk3 0 0 0 0 0 }
 {
     Routed {
-        number: 0,
-        place: 0,
         walk1,
         walk2,
         walk3,
-        things: 0,
-        kind1: 0,
-        thing1: 0,
-        kind2: 0,
-        thing2: 0,
+        ..NOTHING_TOLD
     }
 }
 
@@ -104,22 +106,19 @@ fn parted(things: u16, one: Part, two: Part) -> Routed
     ensures { result ≡ parted_by things one two }
 {
     Routed {
-        number: 0,
-        place: 0,
-        walk1: 0,
-        walk2: 0,
-        walk3: 0,
         things,
         kind1: one.kind,
         thing1: one.thing,
         kind2: two.kind,
         thing2: two.thing,
+        ..NOTHING_TOLD
     }
 }
 
 // The things that part two switches, in numbers.
+#[tactic(auto, unfolding(crate::specs::Routes::routed_of, crate::specs::Routes::first_of, crate::specs::Routes::second_of))]
 fn told_things(things: Things) -> Routed
-    ensures { result ≡ routed_of (reply_of (Parted things)) }
+    ensures { result ≡ routed_of (reply_of (Ok (Parted things))) }
 {
     match things {
         Things::Nothing => parted(0, no_part(), no_part()),
@@ -129,13 +128,14 @@ fn told_things(things: Things) -> Routed
 }
 
 // An answer in numbers.
-fn told(answer: Between) -> Routed
+#[tactic(auto, unfolding(crate::specs::Routes::routed_of))]
+fn told(answer: Result<Routes, refusals::Refusal>) -> Routed
     ensures { result ≡ routed_of (reply_of answer) }
 {
     match answer {
-        Between::Walks(walk1, walk2, walk3) => walks(walk1, walk2, walk3),
-        Between::Parted(things) => told_things(things),
-        Between::Refused(number, place) => refused(number, place),
+        Ok(Routes::Walks(walk1, walk2, walk3)) => walks(walk1, walk2, walk3),
+        Ok(Routes::Parted(things)) => told_things(things),
+        Err(refusal) => refused(Refusal::from(refusal)),
     }
 }
 
@@ -161,7 +161,7 @@ pub fn routes(
         from to out.old result out.new }
 {
     if memory::wrong_lengths(links.len(), MARKS, MARKS, ROW, ROW, ROW, ROW, ROW) {
-        return refused(LENGTHS, 0);
+        return refused(memory::WRONG_LENGTHS);
     }
     let st = memory::state_of(stage, n, m, root, first, last, longs, born);
     let answer = routes::between_in(st, links, from, to, out);

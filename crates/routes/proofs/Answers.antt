@@ -1,6 +1,7 @@
 -- Laws of the routes call by the stage, in the code's terms, and the links of a session as the code lends them.
 -- The answer asks for N and the links alone: on the network that a session holds it is that network's.
-use mathlib.Core.Path.{◌≡◌, refl, sym, ap, ap₂, ◌∙◌}
+use mathlib.Core.Path.{◌≡◌, refl, sym, ap, ◌∙◌}
+use mathlib.Core.Logic.{◌⊎◌, ⊎_elim}
 use mathlib.Core.Bool.{cond}
 use mathlib.Core.List.{List}
 use Prim.Native.Nat.{ℕ, min, ◌+◌, ◌*◌}
@@ -9,7 +10,6 @@ use lib.Dec.{ltb}
 use lib.ListN.{length, take}
 use Rattle.mondschein.specs.Network.{Network, size, former, latter, joins, joined, link_of, Proper}
 use Rattle.network.specs.Index.{far_end}
-use Rattle.rows.proofs.Prefixes.{least_take}
 use Rattle.in_place.specs.declared.Stage.TheVariants.{Empty, Open, Closed}
 use Rattle.in_place.specs.declared.Session.{Session}
 use Rattle.in_place.specs.Session.{network_in}
@@ -32,9 +32,8 @@ module _ (s : Session) (a b : ℕ) (out : List ℕ) where
   unfolding between_by
   between_closed q = on_closed_lem _ _ _ q
 
--- as the code lends them: N bounded, and the first numbers of the array
-pub lent : (n m : ℕ) (links : List ℕ) {k r : ℕ} → length links ≡ 8192 → k ≡ min n 1024 → r ≡ min (2 * m) 8192 → unnamed k (take r links) ≡ links_as n m links
-lent n m links {k} {r} l p q = ap₂ unnamed p (least_take (2 * m) links (let z : r ≡ min (2 * m) (length links) = omega (arith, l, q) in z))
+  pub between_loaded_lem : (s.stage ≡ Open) ⊎ (s.stage ≡ Closed) → between_by s a b out ≡ routes_into (links_as s.n s.m s.links) a b out
+  between_loaded_lem q = ⊎_elim between_open between_closed q
 
 -- N and the links alone
 routes_unnamed : (net : Network) (s t : ℕ) → routes_of net s t ≡ routes_of (unnamed net.n net.links) s t

@@ -1,6 +1,6 @@
 -- The call of document 02, Note 8, which only reads a session: what it replies and leaves of the slice, for any session and any arguments;
 -- and the equation of the same call in place.
-use Rattle.std.specs.Prelude.{◌≡◌, List, ℕ, min, ◌*◌, take}
+use Rattle.std.specs.Prelude.{◌≡◌, List, ℕ, min, ◌*◌, take, Result}
 use Rattle.mondschein.specs.Network.{Network}
 use Rattle.in_place.specs.declared.State.{State}
 use Rattle.in_place.specs.declared.Session.{Session}
@@ -8,7 +8,8 @@ use Rattle.in_place.specs.Session.{by_stage}
 use Rattle.in_place.specs.InPlace.{session_in}
 use Rattle.disjoint.specs.Matching.{unnamed}
 use Rattle.disjoint.specs.Replies.{Told, refusing, routes_into}
-use Rattle.routing.specs.declared.Between.{Between}
+use Rattle.refusals.specs.declared.Refusal.{Refusal}
+use Rattle.routing.specs.declared.Routes.{Routes}
 use Rattle.routing.specs.Answers.{told_by}
 
 -- n switches, no more than the limit of N, and the m links at the start of an array
@@ -20,6 +21,6 @@ unfoldable pub between_by : Session → ℕ → ℕ → List ℕ → Told
 between_by s a b out = let told = routes_into (links_as s.n s.m s.links) a b out in by_stage s.stage (refusing 19 out) told told
 
 -- the call in place, whatever the arrays beside the links hold
-abbrev pub BetweenIn : State → List ℕ → ℕ → ℕ → List ℕ → Between → List ℕ → Type 0
+abbrev pub BetweenIn : State → List ℕ → ℕ → ℕ → List ℕ → Result Routes Refusal → List ℕ → Type 0
 BetweenIn st links a b out r out' =
     (ducts used births order tree1 tree2 tree3 : List ℕ) → told_by r out' ≡ between_by (session_in st links ducts used births order tree1 tree2 tree3) a b out

@@ -1,10 +1,11 @@
-use mathlib.Core.Path.{ap, ◌∙◌}
+use Rattle.std.proofs.Common.{ap, ◌∙◌}
 use Rattle.in_place.specs.declared.State.{State}
-use Rattle.in_place.specs.InPlace.{session_in}
+use Rattle.in_place.specs.InPlace.{with_state}
 use Rattle.routes.specs.Calls.{between_by}
 use Rattle.routes.proofs.between.Goals as goal
 
 pub returns : goal.returns
 returns c =
-    c.between_in.ensures c.args.s.ducts c.args.s.used c.args.s.births c.args.s.order c.args.s.tree1 c.args.s.tree2 c.args.s.tree3
-    ∙ ap (λ (st : State). between_by (session_in st c.args.s.links c.args.s.ducts c.args.s.used c.args.s.births c.args.s.order c.args.s.tree1 c.args.s.tree2 c.args.s.tree3) c.args.from c.args.to c.args.out.now) c.state_of.ensures
+    let s = c.args.s in
+    c.between_in.ensures s.ducts s.used s.births s.order s.tree1 s.tree2 s.tree3
+    ∙ ap (λ (st : State). between_by (with_state s st) c.args.from c.args.to c.args.out.now) c.state.ensures
