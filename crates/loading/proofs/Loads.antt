@@ -1,64 +1,19 @@
--- Laws of loading in the code's terms: the table padded number by number, the limits of a session, and what is left after check 1.
+-- Laws of loading in the code's terms: the limits of a session, and what is left after check 1.
 -- The session's constants are the limits of document 01.
-use mathlib.Core.Path.{◌≡◌, sym, ap, ◌∙◌, subst}
-use mathlib.Core.Bool.{true, false, not, ◌||◌}
-use mathlib.Core.List.{List, [], ◌∷◌, ◌++◌, append_assoc}
-use Prim.Native.Nat.{ℕ, suc, ◌+◌, ◌-◌, ◌*◌, ◌/◌, ◌%◌, ◌≤◌, ◌<◌}
-use native.Mathlib.Numerals.{add-one}
-use native.Mathlib.Nat.{div-add-mod'}
-use native.Mathlib.Omega.{arith}
-use lib.Dec.{eqb, ltb}
-use lib.ListN.{length, get_or, set, take, replicate, length-take, length-replicate}
-use lib.Seq.{take-suc, take_all, set-append_seam}
-use borrow.Author.Tests.{ltb-false, lt-ltb, le-ltb, not-false, eqb-true}
+use Rattle.std.proofs.Common.{◌≡◌, sym, ◌∙◌, true, false, ◌||◌, List, ℕ, ◌*◌, ◌/◌, ◌%◌, ◌≤◌, ◌<◌, div-add-mod', arith, ltb, length, ltb-false, lt-ltb, eqb-true}
+use borrow.Author.Tests.{not-false}
 use Rattle.mondschein.specs.Network.{Network, size}
 use Rattle.mondschein.specs.Judge.{given, refused, wrong_size, loading, loading_by}
 use Rattle.mondschein.proofs.Logic.{or_left, true_or, or_false}
 use Rattle.mondschein.proofs.Checks.{check_fail, check_pass, check_given}
 use Rattle.network.specs.Load.{network_of, table_order}
 use Rattle.network.proofs.Loading.{table_loading}
-use Rattle.in_place.specs.Session.{padded}
 use Rattle.in_place.specs.InPlace.{Paired}
-
--- a row of zeros
-pub zeros_length : (c : ℕ) (row : List ℕ) → row ≡ replicate {A = ℕ} c 0 → length row ≡ c
-zeros_length c row q = ap length q ∙ length-replicate c 0
-
--- what an array of c numbers holds when i of the list are copied into it
-abbrev pub copied : ℕ → List ℕ → ℕ → List ℕ
-copied c l i = take i l ++ replicate {A = ℕ} (c - i) 0
-
-pub copied_none : (c : ℕ) (l row : List ℕ) → row ≡ replicate {A = ℕ} c 0 → row ≡ copied (length row) l 0
-copied_none c l row q =
-    let e : length row ≡ length row - 0 = omega arith in
-    q ∙ ap (λ (k : ℕ). replicate {A = ℕ} k 0) (sym (zeros_length c row q) ∙ e)
-
-pub copied_more : (c : ℕ) (l : List ℕ) (i : ℕ) → i < length l → i < c → set (copied c l i) i (get_or l i 0) ≡ copied c l (i + 1)
-copied_more c l i h m =
-    let e : c - i ≡ suc (c - (i + 1)) = omega arith in
-    let z : length (take i l) ≡ i = omega (arith, length-take i l) in
-    rw e
-    (subst (λ (k : ℕ). set (take i l ++ (0 ∷ replicate {A = ℕ} (c - (i + 1)) 0)) k (get_or l i 0) ≡ take i l ++ (get_or l i 0 ∷ replicate {A = ℕ} (c - (i + 1)) 0)) z
-    (set-append_seam (take i l) 0 (replicate {A = ℕ} (c - (i + 1)) 0) (get_or l i 0)))
-    ∙ sym
-    (ap (λ (t : List ℕ). t ++ replicate {A = ℕ} (c - (i + 1)) 0) (ap (λ (k : ℕ). take k l) (add-one i) ∙ take-suc l i 0 h)
-    ∙ append_assoc (take i l) (get_or l i 0 ∷ []) (replicate {A = ℕ} (c - (i + 1)) 0))
-
-pub copied_all : (c : ℕ) (l : List ℕ) (i : ℕ) → length l ≡ i → copied c l i ≡ padded c l
-copied_all c l i q = ap (λ (t : List ℕ). t ++ replicate {A = ℕ} (c - i) 0) (take_all i l (omega arith)) ∙ ap (λ (k : ℕ). l ++ replicate {A = ℕ} (c - k) 0) (sym q)
 
 -- check 1
 module _ (n : ℕ) (links : List ℕ) where
   abbrev net : Network
   net = network_of n links 0 0 0
-
-  pub few_switches : n < 4 → wrong_size net 0 ≡ true
-  unfolding wrong_size size
-  few_switches h = or_left _ _ (or_left _ _ (or_left _ _ (lt-ltb _ _ h)))
-
-  pub many_switches : 1024 < n → wrong_size net 0 ≡ true
-  unfolding wrong_size size
-  many_switches h = or_left _ _ (or_left _ _ (true_or (ltb n 4) _ (lt-ltb _ _ h)))
 
   pub few_links : length links / 2 < 6 → wrong_size net 0 ≡ true
   unfolding wrong_size size
@@ -67,10 +22,6 @@ module _ (n : ℕ) (links : List ℕ) where
   pub many_links : 4096 < length links / 2 → wrong_size net 0 ≡ true
   unfolding wrong_size size
   many_links h = or_left _ _ (true_or (ltb n 4 || ltb 1024 n) _ (true_or (ltb (length links / 2) 6) _ (lt-ltb _ _ h)))
-
-  pub half_link : 4 ≤ n → n ≤ 1024 → 6 ≤ length links / 2 → length links / 2 ≤ 4096 → not (eqb (length links % 2) 0) ≡ wrong_size net 0
-  unfolding wrong_size size
-  half_link a b c d = sym (rw (le-ltb n 4 a, le-ltb 1024 n b, le-ltb (length links / 2) 6 c, le-ltb 4096 (length links / 2) d))
 
   -- past check 1 there are at most 4,096 whole links
   pub right_size : wrong_size net 0 ≡ false → length links ≤ 8192

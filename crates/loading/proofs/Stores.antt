@@ -1,25 +1,15 @@
 -- What the code stores is the session that the definitions say: arrays of zeros, and a network with its table and its index.
--- A refused load leaves the index.
-use Rattle.std.proofs.Common.{◌≡◌, ℕ, ◌*◌, ◌-◌, ◌/◌, List, [], ◌++◌, length, take, drop, refl, sym, ap, ◌∙◌, subst, arith}
+use Rattle.std.proofs.Common.{◌≡◌, ℕ, ◌*◌, ◌-◌, ◌/◌, List, [], ◌++◌, length, take, drop, sym, ap, ◌∙◌, subst}
 use Rattle.std.proofs.lemmas.List.{take_at, drop-replicate}
 use Rattle.mondschein.specs.Network.{size}
-use Rattle.mondschein.specs.Judge.{Answer, given, refused}
 use Rattle.network.specs.Load.{network_of, table_of}
 use Rattle.network.specs.Index.{Indexed}
 use Rattle.tables.specs.Tables.{tables_of}
 use Rattle.in_place.specs.declared.Stage.{Stage}
-use Rattle.in_place.specs.declared.Stage.TheVariants.{Empty, Open, Closed}
+use Rattle.in_place.specs.declared.Stage.TheVariants.{Empty, Open}
 use Rattle.in_place.specs.declared.State.{State}
-use Rattle.in_place.specs.Session.{Stored, session_of, by_stage, zeros, padded, no_tables, none_stored, stored_of, empty_session, opened_with}
-use Rattle.in_place.specs.InPlace.{session_in, empty_state, SizedAs, Paired, IndexedIn, KeepsIndex}
-
--- an answer is not both
-given_refused : {vs : List ℕ} {num place : ℕ} → given vs ≡ refused num place → ⊥
-given_refused q = let z : ◌≡◌ {A = ℕ} 0 1 = ap told q in omega arith
-  where
-    told : Answer → ℕ
-    told (given _) = 0
-    told (refused _ _) = 1
+use Rattle.in_place.specs.Session.{Stored, session_of, zeros, padded, no_tables, none_stored, stored_of, empty_session, opened_with}
+use Rattle.in_place.specs.InPlace.{session_in, empty_state, SizedAs, Paired, IndexedIn}
 
 -- the state that has loaded a network
 abbrev pub open_state : ℕ → List ℕ → ℕ → ℕ → ℕ → State
@@ -60,13 +50,6 @@ module _ {l d u b o p q t : List ℕ} (z : SizedAs l d u b o p q t) {u' b' o' p'
 pub put_in_zeros : (c : ℕ) (l : List ℕ) {row row' : List ℕ} → row ≡ zeros c → row' ≡ l ++ drop (length l) row → row' ≡ padded c l
 put_in_zeros c l q p = p ∙ ap (λ (r : List ℕ). l ++ drop (length l) r) q ∙ ap (λ (r : List ℕ). l ++ r) (drop-replicate (length l) c 0)
 
--- only an empty session loads
-pub not_empty : {A : Type 0} (stage : Stage) (a b : A) → (stage ≡ Empty → ⊥) → by_stage stage a b b ≡ b
-unfolding by_stage
-not_empty Empty a b h = absurd (h refl)
-not_empty Open a b h = refl
-not_empty Closed a b h = refl
-
 -- the index of the numbers that were lent is that of the links that are stored
 pub index_stored : (n : ℕ) (links : List ℕ) (root first last c : ℕ) {l' index : List ℕ} → Paired links → l' ≡ padded c links → Indexed (table_of links) index
     → IndexedIn (open_state n links root first last) l' index
@@ -78,11 +61,3 @@ index_stored n links root first last c {l'} {index} w f i =
 -- the index of no link
 pub index_none : {r : State} {index : List ℕ} → r ≡ empty_state → Indexed (table_of []) index → (l' : List ℕ) → IndexedIn r l' index
 index_none {index = index} q i l' = subst (λ (st : State). IndexedIn st l' index) (sym q) i
-
--- a refusal leaves it
-pub index_left : (st : State) (l index : List ℕ) (a : Answer) {st' : State} → st' ≡ st → KeepsIndex st l index a st' l index
-index_left st l index a q = record { keeps = λ i. subst (λ (s : State). IndexedIn s l index) (sym q) i; leaves = λ num place _. refl }
-
--- a network that is loaded has its own
-pub index_loaded : {st st' : State} {l l' index index' vs : List ℕ} → IndexedIn st' l' index' → KeepsIndex st l index (given vs) st' l' index'
-index_loaded i = record { keeps = λ _. i; leaves = λ num place q. absurd (given_refused q) }

@@ -72,6 +72,7 @@ fn wrong_size(n: u16, links: &[u16]) -> bool
 }
 
 // Checks 1 to 6, with an index of its own: what they answer, N and M or a refusal.
+#[tactic(auto, using(crate::proofs::Loads::right_size, crate::proofs::Loads::load_1, crate::proofs::Loads::load_rest))]
 fn check_load(n: u16, links: &[u16], root: u16, first: u16, last: u16) -> Result<Loaded, Refusal>
     ensures { load_answer result ≡ loading (network_of n links.now root first last) }
 {
@@ -131,6 +132,7 @@ fn store_network(
 }
 
 // Loads a network into an empty session, with the ducts of its links and its index: 20 on any other, then checks 1 to 6.
+#[tactic(auto, using(crate::proofs::Loads::loaded_paired), unfolding(in_place::specs::Session::loaded_by, in_place::specs::Session::by_stage, mondschein::specs::Outcome::settle, mondschein::specs::Outcome::granted))]
 pub fn load(
     st: &mut State,
     n: u16,
