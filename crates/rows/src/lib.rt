@@ -2,7 +2,7 @@
 // A number past the end of a row reads as 0, and a store past it changes nothing.
 #![tactic(auto)]
 
-ghost use Rattle.std.specs.Prelude.{◌≡◌, ◌<◌, min, length, set, replicate, slice_index_or, take, unwrap_or, IfSome};
+ghost use Rattle.std.specs.Prelude.{◌≡◌, ◌<◌, min, length, set, slice_index_or, take, unwrap_or, IfSome};
 ghost use Rattle.mondschein.specs.Network.{at};
 ghost use Rattle.mondschein.specs.Order.{position};
 
@@ -33,29 +33,6 @@ pub fn mark(used: &mut [u8], l: usize)
     ensures { used.new ≡ set used.old l 1 }
 {
     store_at(used, l, 1);
-}
-
-// No mark is left.
-pub fn unmark(marks: &mut [u8])
-    ensures { marks.new ≡ replicate (length marks.old) 0 }
-{
-    marks.fill(0);
-}
-
-// Every entry is x.
-pub fn fill(row: &mut [u16], x: u16)
-    ensures { row.new ≡ replicate (length row.old) x }
-{
-    for entry in row.iter_mut() {
-        *entry = x;
-    }
-}
-
-// The index of x in the list, or its length.
-pub fn position_of(list: &[u16], x: u16) -> usize
-    ensures { result ≡ position list.now x }
-{
-    list.iter().position(|y| *y == x).unwrap_or(list.len())
 }
 
 // The index of the first number of the list that is a or b.
