@@ -3,27 +3,18 @@
 // sizes (zone of each switch)), that of a list as (accepted ears), that of bringing over as (brought over).
 #![tactic(auto)]
 
-use bringing::BroughtOver;
-use closing::Close;
-use judge::Ear;
-use network::Load;
-use offering::EarList;
+use network::Loaded;
+use offering::ListRefusal;
+use refusals::Refusal;
 use session::Session;
-use walks::{Parent, Walk};
-use zoning::Zoned;
 
 // The numbers of a list, at most so many as the count, one space between them.
 fn write_list(list: &[u16], count: usize) {
-    let mut i = 0;
-    while i < list.len() {
-        if count <= i {
-            return;
-        }
+    for (i, number) in list.iter().take(count).enumerate() {
         if 0 < i {
             io::write_all(1, b" ");
         }
-        io::print_decimal(1, list[i] as u64);
-        i += 1;
+        io::print_decimal(1, u64::from(*number));
     }
 }
 
@@ -37,17 +28,16 @@ fn write_form(word: &[u8], numbers: &[u16]) {
 }
 
 // The line of a refusal.
-fn write_refusal(number: u8, place: u16) {
-    write_form(b"refused", &[number as u16, place]);
+fn write_refusal(refusal: Refusal) {
+    write_form(b"refused", &[u16::from(refusal.number()), refusal.place()]);
 }
 
 // Loads a network into a fresh session, writes the answer, and gives the session after it.
 fn load(n: u16, links: &[u16], root: u16, first: u16, last: u16) -> Session {
     let loaded = session::load_flat(Session::empty(), n, links, &[], root, first, last);
-    let answer = loaded.answer;
-    match answer {
-        Load::Loaded(switches, size) => write_form(b"opened", &[switches, size]),
-        Load::Refused(number, place) => write_refusal(number, place),
+    match loaded.answer {
+        Ok(Loaded { switches, links }) => write_form(b"opened", &[switches, links]),
+        Err(refusal) => write_refusal(refusal),
     }
     loaded.session
 }
@@ -55,10 +45,9 @@ fn load(n: u16, links: &[u16], root: u16, first: u16, last: u16) -> Session {
 // Offers an ear, writes the answer, and gives the session after it.
 fn offer(s: Session, ear: &[u16]) -> Session {
     let offered = session::ear(s, ear);
-    let answer = offered.answer;
-    match answer {
-        Ear::New(count) => write_form(b"new", &[count]),
-        Ear::Refused(number, place) => write_refusal(number, place),
+    match offered.answer {
+        Ok(count) => write_form(b"new", &[count]),
+        Err(refusal) => write_refusal(refusal),
     }
     offered.session
 }
@@ -73,64 +62,64 @@ fn write_accepted(count: usize) {
 // Offers a list of ears, writes how many were accepted and the refusal of the next, if any, and gives the session after it.
 fn offer_list(s: Session, list: &[u16]) -> Session {
     let listed = session::ears(s, list);
-    let answer = listed.answer;
-    match answer {
-        EarList::Accepted(count) => write_accepted(count),
-        EarList::Refused(count, number, place) => {
-            write_accepted(count);
-            write_refusal(number, place);
+    match listed.answer {
+        Ok(count) => write_accepted(count),
+        Err(ListRefusal { accepted, refusal }) => {
+            write_accepted(accepted);
+            write_refusal(refusal);
         }
     }
     listed.session
 }
 
+// The line of an answer without a value, or of its refusal.
+fn write_done(line: &[u8], answer: Result<(), Refusal>) {
+    match answer {
+        Ok(()) => {
+            io::write_all(1, line);
+        }
+        Err(refusal) => write_refusal(refusal),
+    }
+}
+
 // Closes, writes the answer, and gives the session after it.
 fn close(s: Session) -> Session {
     let closing = session::close(s);
-    let answer = closing.answer;
-    match answer {
-        Close::Closed => {
-            io::write_all(1, b"(closed)\n");
-        }
-        Close::Refused(number, place) => write_refusal(number, place),
-    }
+    write_done(b"(closed)\n", closing.answer);
     closing.session
 }
 
 // Brings the session over, writes the answer, and gives the session after it.
 fn bring_over(s: Session) -> Session {
     let bringing = session::bring_over(s);
-    let answer = bringing.answer;
-    match answer {
-        BroughtOver::Done => {
-            io::write_all(1, b"(brought over)\n");
-        }
-        BroughtOver::Refused(number, place) => write_refusal(number, place),
-    }
+    write_done(b"(brought over)\n", bringing.answer);
     bringing.session
 }
 
 // Writes what parent answers.
 fn parent(s: Session, switch: u16, tree: u16) {
-    let answer = session::parent(s, switch, tree);
-    match answer {
-        Parent::Entry(entry) => write_form(b"parent", &[switch, tree, entry]),
-        Parent::Refused(number, place) => write_refusal(number, place),
+    match session::parent(s, switch, tree) {
+        Ok(entry) => write_form(b"parent", &[switch, tree, entry]),
+        Err(refusal) => write_refusal(refusal),
     }
+}
+
+// The line of an answer with a list: a word, the numbers that were asked for, and so many numbers of the list.
+fn write_listed(word: &[u8], asked: &[u16], list: &[u16], count: usize) {
+    io::write_all(1, b"(");
+    io::write_all(1, word);
+    io::write_all(1, b" ");
+    write_list(asked, asked.len());
+    io::write_all(1, b" (");
+    write_list(list, count);
+    io::write_all(1, b"))\n");
 }
 
 // Writes what walk answers, and the walk out of the slice.
 fn walk(s: Session, switch: u16, tree: u16, out: &mut [u16]) {
-    let answer = session::walk(s, switch, tree, out);
-    match answer {
-        Walk::Count(count) => {
-            io::write_all(1, b"(walk ");
-            write_list(&[switch, tree], 2);
-            io::write_all(1, b" (");
-            write_list(out, count as usize);
-            io::write_all(1, b"))\n");
-        }
-        Walk::Refused(number, place) => write_refusal(number, place),
+    match session::walk(s, switch, tree, out) {
+        Ok(count) => write_listed(b"walk", &[switch, tree], out, count as usize),
+        Err(refusal) => write_refusal(refusal),
     }
 }
 
@@ -148,16 +137,9 @@ fn routes(s: Session, switch: u16) {
 // Writes what zones of card k answers, and the zone of each switch out of the slice.
 fn zones(s: Session, n1: u16, n2: u16, n3: u16) {
     let mut out = [0u16; 6];
-    let answer = zoning::zones(s, n1, n2, n3, &mut out);
-    match answer {
-        Zoned::Written => {
-            io::write_all(1, b"(zones ");
-            write_list(&[n1, n2, n3], 3);
-            io::write_all(1, b" (");
-            write_list(&out, 6);
-            io::write_all(1, b"))\n");
-        }
-        Zoned::Refused(number, place) => write_refusal(number, place),
+    match zoning::zones(s, n1, n2, n3, &mut out) {
+        Ok(()) => write_listed(b"zones", &[n1, n2, n3], &out, out.len()),
+        Err(refusal) => write_refusal(refusal),
     }
 }
 
