@@ -1,15 +1,12 @@
 -- What the report's functions for C give back and leave, in the code's terms: by the lengths of the rows by duct and of the session's arrays,
 -- and by what adding in place answered.
-use mathlib.Core.Path.{◌≡◌, refl, sym, ap, ap₂, subst}
-use mathlib.Core.Bool.{Bool, true, false, ◌||◌}
-use mathlib.Core.List.{List}
-use Prim.Native.Nat.{ℕ}
-use lib.ListN.{replicate}
-use borrow.Author.Tests.{eqb-true, not-false}
+use Rattle.std.proofs.Common.{◌≡◌, ℕ, Bool, true, false, ◌||◌, List, replicate, eqb-true, refl, sym, ap, ap₂, subst}
+use Rattle.std.proofs.lemmas.Bool.{not-false}
+use Rattle.std.specs.Prelude.{Result, Ok, Err}
 use Rattle.mondschein.specs.Outcome.{Outcome}
 use Rattle.mondschein.proofs.Logic.{or_false}
-use Rattle.report.specs.declared.Added.{Added}
-use Rattle.report.specs.declared.Added.TheVariants.{Sessions, Refused}
+use Rattle.refusals.specs.declared.Refusal as Reason
+use Rattle.refusals.specs.Refusals.{number, place}
 use Rattle.report.specs.declared.Report.{Report}
 use Rattle.report.specs.Report.{report_of, empty_report, added_answer, sessions_after}
 use Rattle.memory.specs.declared.Refusal.{Refusal}
@@ -42,18 +39,13 @@ unfolding sized
 sized_right old o {r} {after} q g = subst (λ (x : Bool). Returns (sized x old o) r after) (sym q) g
 
 -- the outcome of adding, by the answer in place: refused, or added and counted
-abbrev AddedBy : ℕ → List ℕ → List ℕ → Outcome Report → Added → Type 0
+abbrev AddedBy : ℕ → List ℕ → List ℕ → Outcome Report → Result ℕ Reason.Refusal → Type 0
 AddedBy sessions two three o r = record { answer = added_answer r; after = report_of (sessions_after r sessions) two three } ≡ o
 
 module _ (sessions : ℕ) {two three : List ℕ} {o : Outcome Report} where
-  pub adding_refused : {r : Added} {num place : ℕ} → r ≡ Refused num place → AddedBy sessions two three o r
-      → Returns o (refusal_by num place) (report_of sessions two three)
-  adding_refused e q =
-      let w = subst (AddedBy sessions two three o) e q in
-      (refusing o 0 (sym (ap (λ (x : Outcome Report). x.answer) w)) refl (ap (λ (x : Outcome Report). x.after) w)).returns
+  pub adding_refused : (e : Reason.Refusal) {r : Refusal} → r ≡ refusal_by (number e) (place e) → AddedBy sessions two three o (Err e)
+      → Returns o r (report_of sessions two three)
+  adding_refused e q h = (refusing o 0 (sym (ap (λ (x : Outcome Report). x.answer) h)) q (ap (λ (x : Outcome Report). x.after) h)).returns
 
-  pub adding_counted : {r : Added} {count : ℕ} → r ≡ Sessions count → AddedBy sessions two three o r
-      → Returns o (refusal_by 0 0) (report_of count two three)
-  adding_counted e q =
-      let w = subst (AddedBy sessions two three o) e q in
-      (granting o 0 (sym (ap (λ (x : Outcome Report). x.answer) w)) refl (ap (λ (x : Outcome Report). x.after) w)).returns
+  pub adding_counted : (count : ℕ) → AddedBy sessions two three o (Ok count) → Returns o (refusal_by 0 0) (report_of count two three)
+  adding_counted count h = (granting o 0 (sym (ap (λ (x : Outcome Report). x.answer) h)) refl (ap (λ (x : Outcome Report). x.after) h)).returns

@@ -2,36 +2,22 @@
 // Begun empty, it adds the session that the memory means, for any contents of both; rows of other lengths are refused with 255.
 #![tactic(auto)]
 
-ghost use Rattle.std.specs.Prelude.{◌≡◌, length, replicate};
+ghost use Rattle.std.specs.Prelude.{◌≡◌};
 ghost use Rattle.memory.specs.Memory.{numbers_by, memory_by};
 ghost use Rattle.report.specs.Report.{report_of};
 ghost use Rattle.memory_report.specs.Report.{wrong_rows, Begins, Adds};
 
-use memory::{LENGTHS, MARKS, ROW, Refusal};
-use report::Added;
+use memory::{MARKS, ROW, Refusal};
 
 // The length of a row by duct.
 pub const DUCTS: usize = 256;
 
 // Rows by duct of other lengths than the struct's.
+#[tactic(auto, unfolding(crate::specs::Report::wrong_rows))]
 fn wrong_rows(two: usize, three: usize) -> bool
     ensures { result ≡ wrong_rows two three }
 {
-    if two != DUCTS {
-        return true;
-    }
-    three != DUCTS
-}
-
-// Every sum is 0.
-fn clear(sums: &mut [u32])
-    ensures { sums.new ≡ replicate (length sums.old) 0 }
-{
-    let mut d = 0;
-    while d < sums.len() {
-        sums[d] = 0;
-        d += 1;
-    }
+    two != DUCTS || three != DUCTS
 }
 
 // Begins a report empty.
@@ -40,18 +26,12 @@ pub fn begin(sessions: &mut u16, two: &mut [u32], three: &mut [u32]) -> Refusal
         (report_of sessions.new two.new three.new) }
 {
     if wrong_rows(two.len(), three.len()) {
-        return Refusal {
-            number: LENGTHS,
-            place: 0,
-        };
+        return memory::WRONG_LENGTHS;
     }
     *sessions = 0;
-    clear(two);
-    clear(three);
-    Refusal {
-        number: 0,
-        place: 0,
-    }
+    two.fill(0);
+    three.fill(0);
+    memory::DONE
 }
 
 // Adds a closed session to a report: 19 on an empty session, 21 on an open one, then 25 for a 65,536th.
@@ -78,37 +58,27 @@ pub fn add(
         links.now ducts.now used births order tree1.now tree2.now tree3.now)
         result (report_of sessions.new two.new three.new) }
 {
-    if wrong_rows(two.len(), three.len()) {
-        return Refusal {
-            number: LENGTHS,
-            place: 0,
-        };
-    }
-    if memory::wrong_lengths(
-        links.len(),
-        ducts.len(),
-        MARKS,
-        ROW,
-        ROW,
-        tree1.len(),
-        tree2.len(),
-        tree3.len(),
-    ) {
-        return Refusal {
-            number: LENGTHS,
-            place: 0,
-        };
+    if wrong_rows(two.len(), three.len())
+        || memory::wrong_lengths(
+            links.len(),
+            ducts.len(),
+            MARKS,
+            ROW,
+            ROW,
+            tree1.len(),
+            tree2.len(),
+            tree3.len(),
+        )
+    {
+        return memory::WRONG_LENGTHS;
     }
     let st = memory::state_of(stage, n, m, root, first, last, longs, born);
     let answer = report::add_in(*sessions, two, three, st, links, ducts, tree1, tree2, tree3);
     match answer {
-        Added::Refused(number, place) => Refusal { number, place },
-        Added::Sessions(count) => {
+        Err(refusal) => Refusal::from(refusal),
+        Ok(count) => {
             *sessions = count;
-            Refusal {
-                number: 0,
-                place: 0,
-            }
+            memory::DONE
         }
     }
 }
