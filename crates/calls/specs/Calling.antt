@@ -1,6 +1,6 @@
 -- What the contracts over a call or a walk that a line asks for cite: what is known once the line has it, and its reply.
 -- The index of the links that are stored stays one.
-use Rattle.std.specs.Prelude.{◌≡◌, Bool, false, List, ◌++◌, ℕ, ◌*◌, take}
+use Rattle.std.specs.Prelude.{◌≡◌, Bool, false, List, ◌++◌, ℕ, ◌*◌, take, Some}
 use Rattle.mondschein.specs.Network.{at}
 use Rattle.mondschein.specs.Order.{shortest}
 use Rattle.network.specs.Load.{network_of}
@@ -66,7 +66,7 @@ KeepsIndexed st table index st' table' index' = IndexedIn st table index → Ind
 -- the line has what it asks of the session, whatever was printed before
 abbrev pub Serves : Request → List ℕ → Reader → Session → List ℕ → List ℕ → Reader → Session → List ℕ → Type 0
 Serves q numbers r s links ducts x s' bytes =
-    (line own printed : List ℕ) → reader_in x s' links ducts line (printed ++ bytes) ≡ served q numbers own (reader_in r s links ducts line printed)
+    (line own printed : List ℕ) → reader_in x s' links ducts line (printed ++ bytes) ≡ served (Some q) numbers own (reader_in r s links ducts line printed)
 
 -- the line has the walk that it asks for, whatever is collected and whatever the other arrays hold
 abbrev pub ServesWalk : ℕ → ℕ → Reader → State → List ℕ → List ℕ → List ℕ → Called → List ℕ → Type 0

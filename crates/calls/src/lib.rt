@@ -15,57 +15,67 @@ ghost use Rattle.collect.specs.Dialogue.{reply_to};
 ghost use Rattle.collect.specs.Answering.{fresh_kept, Keeps};
 ghost use Rattle.calls.specs.Calling.{read_on, replied_in, replied_by, Opens, Offers, Closes, KeepsIndexed, ServesWalk};
 
-use closing::Close;
 use collect::{Kept, Reader};
 use in_place::{Session, State};
-use judge::Ear;
-use network::Load;
-use walks::Walk;
+use network::Loaded;
+use refusals::Refusal;
+
+// The four replies to an answer are a match of two arms each: one function for all would take a closure over the lent slice with a contract.
 
 // Writes the reply to load.
-fn reply_to_load(answer: Load, out: &mut [u8]) -> usize
+#[tactic(auto, unfolding(collect::specs::Dialogue::reply_to))]
+fn reply_to_load(answer: Result<Loaded, Refusal>, out: &mut [u8]) -> usize
     requires { 32 ≤ length out.old }
     ensures { Printed (reply (reply_to (λ vs. opened (at vs 0) (at vs 1)) (load_answer answer))) out.old result out.new }
 {
     match answer {
-        Load::Loaded(n, m) => replies::write_opened(out, n, m),
-        Load::Refused(number, place) => replies::write_refused(out, number, place),
+        Ok(loaded) => replies::write_opened(out, loaded.switches, loaded.links),
+        Err(refusal) => replies::write_refused(out, refusal),
     }
 }
 
 // Writes the reply to an ear.
-fn reply_to_ear(answer: Ear, out: &mut [u8]) -> usize
+#[tactic(auto, unfolding(collect::specs::Dialogue::reply_to))]
+fn reply_to_ear(answer: Result<u16, Refusal>, out: &mut [u8]) -> usize
     requires { 32 ≤ length out.old }
     ensures { Printed (reply (reply_to (λ vs. new (at vs 0)) (ear_answer answer))) out.old result out.new }
 {
     match answer {
-        Ear::New(count) => replies::write_new(out, count),
-        Ear::Refused(number, place) => replies::write_refused(out, number, place),
+        Ok(count) => replies::write_new(out, count),
+        Err(refusal) => replies::write_refused(out, refusal),
     }
 }
 
 // Writes the reply to close.
-fn reply_to_close(answer: Close, out: &mut [u8]) -> usize
+#[tactic(auto, unfolding(collect::specs::Dialogue::reply_to))]
+fn reply_to_close(answer: Result<(), Refusal>, out: &mut [u8]) -> usize
     requires { 32 ≤ length out.old }
     ensures { Printed (reply (reply_to (λ vs. closed) (close_answer answer))) out.old result out.new }
 {
     match answer {
-        Close::Closed => replies::write_closed(out),
-        Close::Refused(number, place) => replies::write_refused(out, number, place),
+        Ok(()) => replies::write_closed(out),
+        Err(refusal) => replies::write_refused(out, refusal),
     }
 }
 
 // Writes the reply to a walk, its switches at the start of a slice.
-fn reply_to_walk(answer: Walk, switch: u16, tree: u16, route: &[u16], out: &mut [u8]) -> usize
+#[tactic(auto, unfolding(collect::specs::Dialogue::reply_to))]
+fn reply_to_walk(
+    answer: Result<u16, Refusal>,
+    switch: u16,
+    tree: u16,
+    route: &[u16],
+    out: &mut [u8],
+) -> usize
     requires { (length route.now ≤ 1024) × (8192 ≤ length out.old) }
     ensures { Printed (reply (reply_to (λ vs. walked switch tree (take (at vs 0) route.now)) (walk_answer answer))) out.old result out.new }
 {
     match answer {
-        Walk::Count(count) => {
-            let shown = rows::least(count as usize, route.len());
-            replies::write_walk(out, switch, tree, &route[..shown])
+        Ok(count) => {
+            let switches = rows::prefix(route, usize::from(count));
+            replies::write_walk(out, switch, tree, switches)
         }
-        Walk::Refused(number, place) => replies::write_refused(out, number, place),
+        Err(refusal) => replies::write_refused(out, refusal),
     }
 }
 
@@ -81,9 +91,10 @@ pub struct Called {
 fn replied(r: Reader) -> Reader
     ensures { result ≡ read_on r }
 {
-    let mut reader = r;
-    reader.stopped = false;
-    reader
+    Reader {
+        stopped: false,
+        ..r
+    }
 }
 
 // Loads the network that was collected, with its ducts; row is the session's row of ducts.
@@ -108,13 +119,12 @@ pub fn open(
     ensures keeps { Keeps result.written out.old out.new × KeepsIndexed st table.old index.old result.state table.new index.new }
 {
     let d = r.kept;
-    let numbers = rows::least(2 * (d.count as usize), links.len());
-    let given = rows::least(d.count as usize, ducts.len());
-    let loaded = loading::load(
-        st,
+    let mut state = st;
+    let answer = loading::load(
+        &mut state,
         d.n,
-        &links[..numbers],
-        &ducts[..given],
+        rows::prefix(links, 2 * usize::from(d.count)),
+        rows::prefix(ducts, usize::from(d.count)),
         d.root,
         d.first,
         d.last,
@@ -128,12 +138,9 @@ pub fn open(
         tree3,
         index,
     );
-    let answer = loaded.answer;
-    let state = loaded.state;
     let written = reply_to_load(answer, out);
-    let reader = replied(r);
     Called {
-        reader,
+        reader: replied(r),
         state,
         written,
     }
@@ -158,24 +165,14 @@ pub fn offer(
     ensures offers { Offers r st table.now used.old births.old order.old tree1.old tree2.old (take count numbers.now) result used.new births.new order.new tree1.new tree2.new (take result.written out.new) }
     ensures keeps { Keeps result.written out.old out.new × IndexedIn result.state table.now index.now }
 {
-    let shown = rows::least(count as usize, numbers.len());
-    let offered = in_place::ear(
-        st,
-        table,
-        index,
-        used,
-        births,
-        order,
-        tree1,
-        tree2,
-        &numbers[..shown],
+    let mut state = st;
+    let ear = rows::prefix(numbers, usize::from(count));
+    let answer = in_place::ear_in(
+        &mut state, table, index, used, births, order, tree1, tree2, ear,
     );
-    let answer = offered.answer;
-    let state = offered.state;
     let written = reply_to_ear(answer, out);
-    let reader = replied(r);
     Called {
-        reader,
+        reader: replied(r),
         state,
         written,
     }
@@ -195,13 +192,11 @@ pub fn close(
     ensures closes { Closes r st table.now used.now births.now tree3.old result tree3.new (take result.written out.new) }
     ensures keeps { Keeps result.written out.old out.new × (result.state.m ≡ st.m) }
 {
-    let closed = in_place::close(st, table, used, births, tree3);
-    let answer = closed.answer;
-    let state = closed.state;
+    let mut state = st;
+    let answer = in_place::close_in(&mut state, table, used, births, tree3);
     let written = reply_to_close(answer, out);
-    let reader = replied(r);
     Called {
-        reader,
+        reader: replied(r),
         state,
         written,
     }
@@ -227,18 +222,19 @@ pub fn clear(
 {
     let state = loading::clear(table, row, used, births, order, tree1, tree2, tree3, index);
     let written = replies::write_cleared(out);
-    let kept = Kept::fresh();
-    let mut dropped = r;
-    dropped.kept = kept;
-    let reader = replied(dropped);
+    let dropped = Reader {
+        kept: Kept::fresh(),
+        ..r
+    };
     Called {
-        reader,
+        reader: replied(dropped),
         state,
         written,
     }
 }
 
 // Gives the walk that a line asks for.
+#[tactic(auto, unfolding(collect::specs::Dialogue::respond, collect::specs::Answering::requested))]
 pub fn walk(
     r: Reader,
     st: State,
@@ -254,11 +250,10 @@ pub fn walk(
     ensures keeps { Keeps result.written out.old out.new × (result.state ≡ st) }
 {
     let mut route = [0u16; Session::MAX_SWITCHES as usize];
-    let answer = in_place::walk(st, tree1, tree2, tree3, switch, tree, &mut route);
+    let answer = in_place::walk_in(st, tree1, tree2, tree3, switch, tree, &mut route);
     let written = reply_to_walk(answer, switch, tree, &route, out);
-    let reader = replied(r);
     Called {
-        reader,
+        reader: replied(r),
         state: st,
         written,
     }
