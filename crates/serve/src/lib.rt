@@ -14,6 +14,7 @@ use collect::{Call, Reader, Request};
 use in_place::State;
 
 // Makes the call that a line asks for.
+#[tactic(auto, unfolding(collect::specs::Dialogue::respond, collect::specs::Answering::form_of, collect::specs::Answering::requested))]
 fn serve_call(
     r: Reader,
     st: State,
@@ -75,17 +76,16 @@ pub fn take_line(
 {
     let ending = collect::end_line(r, line, numbers, links, ducts, out);
     let reader = ending.reader;
-    let request = ending.request;
-    match request {
-        Request::Nothing => Called {
+    match ending.request {
+        None => Called {
             reader,
             state: st,
             written: ending.written,
         },
-        Request::Walk(switch, tree) => calls::walk(
+        Some(Request::Walk(switch, tree)) => calls::walk(
             reader, st, tree1, tree2, tree3, switch, tree, out,
         ),
-        Request::Call(call) => serve_call(
+        Some(Request::Call(call)) => serve_call(
             reader, st, call, numbers, links, ducts, table, row, used, births, order, tree1, tree2,
             tree3, index, out,
         ),
