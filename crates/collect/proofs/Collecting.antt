@@ -1,4 +1,4 @@
--- Laws of one line without the session: a reply read back from its slice, one more link or one too many, and the form that was read.
+-- Laws of one line without the session: one more link or one too many, and the form that was read.
 -- Lists at the start of a slice are read back by their count.
 use Rattle.std.proofs.Common.{◌≡◌, ℕ, suc, ◌+◌, ◌*◌, ◌<◌, ◌≤◌, Bool, true, false, cond, ltb, List, [], ◌∷◌, ◌++◌, length, take, drop, set, Ok, Err, None, refl, sym, ap, ap₂, ◌∙◌, arith, append_assoc, length-set, length-take, add-one, take_at, take-suc-set, lt-ltb, le-ltb}
 use Rattle.std.proofs.Math.Option.{Option, none, some}
@@ -7,16 +7,12 @@ use Rattle.lines.specs.Writing.{Form, net, link, ducted, opening, ear, closing, 
 use Rattle.lines.specs.Reading.{reading}
 use Rattle.lines.specs.declared.Form.TheVariants.{Link}
 use Rattle.lines.specs.Line.{coded, held}
-use Rattle.replies.specs.Replies.{unread, reply, Printed}
+use Rattle.replies.specs.Replies.{unread, reply}
 use Rattle.transcript.specs.Transcript.{Turn}
 use Rattle.collect.specs.declared.Kept.{Kept}
 use Rattle.collect.specs.declared.Unreadable.{Unreadable}
 use Rattle.collect.specs.Dialogue.{Dialogue, with_links, silent, unread_at, collected, respond, turn}
 use Rattle.collect.specs.Answering.{dialogue_in, requested, respond_to, Responds}
-
--- what was written is read back by its count
-pub printed_back : (bytes held holds : List ℕ) (r : ℕ) → Printed bytes held r holds → take r holds ≡ bytes
-printed_back bytes held holds r (q, e) = ap (take r) e ∙ take_at bytes (drop (length bytes) held) r (sym q)
 
 -- one more link, or one too many
 module _ (d : Kept) (links ducts : List ℕ) (k a b duct : ℕ) (whole : length links ≡ 8192) (each : length ducts ≡ 4096) where

@@ -1,12 +1,8 @@
 -- What a line leaves in the lent slices: a reply, and the numbers of an ear, stand at the start of a slice, and past them it holds what
 -- it held. An ear that is read has at most 3,072 numbers, since each takes two bytes.
-use mathlib.Core.Path.{◌≡◌, refl, sym, ap, ◌∙◌}
-use mathlib.Core.List.{List, [], ◌∷◌, ◌++◌, map}
-use mathlib.Core.Option.{Option, none, some}
-use Prim.Native.Nat.{ℕ, ◌+◌, ◌-◌, ◌*◌, ◌≤◌}
-use native.Mathlib.Omega.{arith}
-use lib.ListN.{length, drop, length-append}
-use lib.Seq.{drop-append-add, drop-drop}
+use Rattle.std.proofs.Common.{◌≡◌, ℕ, ◌+◌, ◌-◌, ◌*◌, ◌≤◌, List, [], ◌∷◌, ◌++◌, map, length, drop, refl, sym, ap, ◌∙◌, arith, length-append, drop-drop}
+use Rattle.std.proofs.Math.Option.{Option, none, some}
+use Rattle.std.proofs.Math.Seq.{drop-append-add}
 use Rattle.mondschein.specs.Outcome.{over}
 use Rattle.lines.specs.Writing.{EAR, ascii, decimal, spaced, separated, bracketed, Form, net, link, ducted, opening, ear, closing, walk, clearing, writing}
 use Rattle.lines.specs.Reading.{reading}

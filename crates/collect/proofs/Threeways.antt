@@ -1,16 +1,8 @@
 -- The transcript of threeways: a line that is too long is the same to it as its first 6,145 bytes, and is the last that is read.
 -- So the bytes of an input, one after another, print its transcript.
-use mathlib.Core.Path.{◌≡◌, sym, ap, ◌∙◌}
-use mathlib.Core.Logic.{⊎_elim}
-use mathlib.Core.Bool.{Bool, true, cond}
-use mathlib.Core.Option.{none}
-use mathlib.Core.List.{List}
-use Prim.Native.Nat.{ℕ, ◌≤◌, ◌<◌}
-use native.Mathlib.Omega.{arith}
-use lib.ListN.{length, take, length-take}
-use lib.Seq.{take_all}
-use borrow.Author.Tests.{lt-ltb}
-use Rattle.mondschein.proofs.Logic.{less?}
+use Rattle.std.proofs.Common.{◌≡◌, ℕ, ◌<◌, ◌≤◌, Bool, true, cond, List, length, take, sym, ap, ◌∙◌, ⊎_elim, arith, length-take, take_all, lt-ltb}
+use Rattle.std.proofs.Math.Option.{none}
+use Rattle.std.proofs.lemmas.Bool.{cases_lt}
 use Rattle.lines.specs.Reading.{any_form, reading}
 use Rattle.transcript.specs.Transcript.{PrintsTranscript}
 use Rattle.transcript.proofs.Transcripts.{prints_transcript}
@@ -25,7 +17,7 @@ cut_turn d k l =
     (ap (λ (b : Bool). cond b none (any_form (take 6145 l))) (lt-ltb 6144 (length (take 6145 l)) (omega (arith, length-take 6145 l)))
     ∙ sym (ap (λ (b : Bool). cond b none (any_form l)) (lt-ltb 6144 (length l) g))))
     (λ (g : length l ≤ 6144). ap (λ (s : List ℕ). turn d k s) (take_all 6145 l (omega arith)))
-    (less? 6144 (length l))
+    (cases_lt 6144 (length l))
 
 stop_turn : (d : Dialogue) (k : ℕ) (l : List ℕ) → 6144 < length l → (turn d k l).stops ≡ true
 unfolding turn reading respond
