@@ -3,14 +3,12 @@
 // sizes (zone of each switch)), that of a list as (accepted ears), that of bringing over as (brought over).
 #![tactic(auto)]
 
-use network::Loaded;
-use offering::ListRefusal;
 use refusals::Refusal;
 use session::Session;
 
-// The numbers of a list, at most so many as the count, one space between them.
-fn write_list(list: &[u16], count: usize) {
-    for (i, number) in list.iter().take(count).enumerate() {
+// The numbers of a list, one space between them.
+fn write_list(list: &[u16]) {
+    for (i, number) in list.iter().enumerate() {
         if 0 < i {
             io::write_all(1, b" ");
         }
@@ -23,32 +21,50 @@ fn write_form(word: &[u8], numbers: &[u16]) {
     io::write_all(1, b"(");
     io::write_all(1, word);
     io::write_all(1, b" ");
-    write_list(numbers, numbers.len());
+    write_list(numbers);
     io::write_all(1, b")\n");
+}
+
+// A line of a word and its numbers, and a list in brackets after them.
+fn write_form_and_list(word: &[u8], numbers: &[u16], list: &[u16]) {
+    io::write_all(1, b"(");
+    io::write_all(1, word);
+    io::write_all(1, b" ");
+    write_list(numbers);
+    io::write_all(1, b" (");
+    write_list(list);
+    io::write_all(1, b"))\n");
 }
 
 // The line of a refusal.
 fn write_refusal(refusal: Refusal) {
-    write_form(b"refused", &[u16::from(refusal.number()), refusal.place()]);
+    let number = refusal.number();
+    write_form(b"refused", &[u16::from(number), refusal.place()]);
+}
+
+// Writes what a call gives, or the line of its refusal.
+fn write_answer<T: Copy, F: FnOnce(T)>(answer: Result<T, Refusal>, write_values: F)
+    requires { F.IsAlwaysCallable write_values }
+{
+    match answer {
+        Ok(values) => write_values(values),
+        Err(refusal) => write_refusal(refusal),
+    }
 }
 
 // Loads a network into a fresh session, writes the answer, and gives the session after it.
 fn load(n: u16, links: &[u16], root: u16, first: u16, last: u16) -> Session {
     let loaded = session::load_flat(Session::empty(), n, links, &[], root, first, last);
-    match loaded.answer {
-        Ok(Loaded { switches, links }) => write_form(b"opened", &[switches, links]),
-        Err(refusal) => write_refusal(refusal),
-    }
+    write_answer(loaded.answer, |sizes| {
+        write_form(b"opened", &[sizes.switches, sizes.links])
+    });
     loaded.session
 }
 
 // Offers an ear, writes the answer, and gives the session after it.
 fn offer(s: Session, ear: &[u16]) -> Session {
     let offered = session::ear(s, ear);
-    match offered.answer {
-        Ok(count) => write_form(b"new", &[count]),
-        Err(refusal) => write_refusal(refusal),
-    }
+    write_answer(offered.answer, |count| write_form(b"new", &[count]));
     offered.session
 }
 
@@ -64,83 +80,71 @@ fn offer_list(s: Session, list: &[u16]) -> Session {
     let listed = session::ears(s, list);
     match listed.answer {
         Ok(count) => write_accepted(count),
-        Err(ListRefusal { accepted, refusal }) => {
-            write_accepted(accepted);
-            write_refusal(refusal);
+        Err(stopped) => {
+            write_accepted(stopped.accepted);
+            write_refusal(stopped.refusal);
         }
     }
     listed.session
 }
 
-// The line of an answer without a value, or of its refusal.
-fn write_done(line: &[u8], answer: Result<(), Refusal>) {
-    match answer {
-        Ok(()) => {
-            io::write_all(1, line);
-        }
-        Err(refusal) => write_refusal(refusal),
-    }
-}
-
 // Closes, writes the answer, and gives the session after it.
 fn close(s: Session) -> Session {
     let closing = session::close(s);
-    write_done(b"(closed)\n", closing.answer);
+    write_answer(closing.answer, |_| {
+        io::write_all(1, b"(closed)\n");
+    });
     closing.session
 }
 
 // Brings the session over, writes the answer, and gives the session after it.
 fn bring_over(s: Session) -> Session {
     let bringing = session::bring_over(s);
-    write_done(b"(brought over)\n", bringing.answer);
+    write_answer(bringing.answer, |_| {
+        io::write_all(1, b"(brought over)\n");
+    });
     bringing.session
 }
 
 // Writes what parent answers.
 fn parent(s: Session, switch: u16, tree: u16) {
-    match session::parent(s, switch, tree) {
-        Ok(entry) => write_form(b"parent", &[switch, tree, entry]),
-        Err(refusal) => write_refusal(refusal),
-    }
-}
-
-// The line of an answer with a list: a word, the numbers that were asked for, and so many numbers of the list.
-fn write_listed(word: &[u8], asked: &[u16], list: &[u16], count: usize) {
-    io::write_all(1, b"(");
-    io::write_all(1, word);
-    io::write_all(1, b" ");
-    write_list(asked, asked.len());
-    io::write_all(1, b" (");
-    write_list(list, count);
-    io::write_all(1, b"))\n");
+    let answer = session::parent(s, switch, tree);
+    write_answer(
+        answer,
+        |entry| write_form(b"parent", &[switch, tree, entry]),
+    );
 }
 
 // Writes what walk answers, and the walk out of the slice.
 fn walk(s: Session, switch: u16, tree: u16, out: &mut [u16]) {
-    match session::walk(s, switch, tree, out) {
-        Ok(count) => write_listed(b"walk", &[switch, tree], out, count as usize),
-        Err(refusal) => write_refusal(refusal),
-    }
+    let answer = session::walk(s, switch, tree, out);
+    write_answer(answer, |count| {
+        write_form_and_list(
+            b"walk",
+            &[switch, tree],
+            rows::prefix(out, usize::from(count)),
+        )
+    });
 }
 
 // The three walks of a switch, and its three entries.
 fn routes(s: Session, switch: u16) {
     let mut out = [0u16; 6];
-    walk(s, switch, 1, &mut out);
-    walk(s, switch, 2, &mut out);
-    walk(s, switch, 3, &mut out);
-    parent(s, switch, 1);
-    parent(s, switch, 2);
-    parent(s, switch, 3);
+    for tree in 1..4 {
+        walk(s, switch, tree, &mut out);
+    }
+    for tree in 1..4 {
+        parent(s, switch, tree);
+    }
 }
 
 // Writes what zones of card k answers, and the zone of each switch out of the slice.
 fn zones(s: Session, n1: u16, n2: u16, n3: u16) {
     let mut out = [0u16; 6];
-    match zoning::zones(s, n1, n2, n3, &mut out) {
-        Ok(()) => write_listed(b"zones", &[n1, n2, n3], &out, out.len()),
-        Err(refusal) => write_refusal(refusal),
-    }
+    let answer = zoning::zones(s, n1, n2, n3, &mut out);
+    write_answer(answer, |_| {
+        write_form_and_list(b"zones", &[n1, n2, n3], &out)
+    });
 }
 
 // The worked example.

@@ -26,31 +26,6 @@ use Rattle.memory_routes.specs.Routes.{routed_by, part_of, no_part, first_of, se
 abbrev numbered : Result Routes Refusal → Routed
 numbered answer = routed_of (reply_of answer)
 
-module _ {answer : Result Routes Refusal} {r : Routed} where
-  pub walks_told : (a b c : ℕ) → answer ≡ Ok (Walks a b c) → r ≡ routed_by 0 0 a b c 0 0 0 0 0 → r ≡ numbered answer
-  unfolding routed_of
-  walks_told a b c e q = q ∙ sym (ap numbered e)
-
-  pub refusal_told : (e : Refusal) → answer ≡ Err e → r ≡ routed_by (number e) (place e) 0 0 0 0 0 0 0 0 → r ≡ numbered answer
-  unfolding routed_of
-  refusal_told refusal e q = q ∙ sym (ap numbered e)
-
-  pub things_told : (xs : Things) → answer ≡ Ok (Parted xs) → r ≡ numbered (Ok (Parted xs)) → r ≡ numbered answer
-  things_told xs e q = q ∙ sym (ap numbered e)
-
-module _ {xs : Things} {r : Routed} {one two : Part} where
-  pub none_told : xs ≡ Nothing → one ≡ no_part → two ≡ no_part → r ≡ parted_by 0 one two → r ≡ numbered (Ok (Parted xs))
-  unfolding routed_of first_of second_of
-  none_told e x y q = q ∙ ap₂ (parted_by 0) x y ∙ sym (ap (λ (z : Things). numbered (Ok (Parted z))) e)
-
-  pub one_told : (a : Loss) → xs ≡ One a → one ≡ part_of (thing_of a) → two ≡ no_part → r ≡ parted_by 1 one two → r ≡ numbered (Ok (Parted xs))
-  unfolding routed_of first_of second_of
-  one_told a e x y q = q ∙ ap₂ (parted_by 1) x y ∙ sym (ap (λ (z : Things). numbered (Ok (Parted z))) e)
-
-  pub two_told : (a b : Loss) → xs ≡ Two a b → one ≡ part_of (thing_of a) → two ≡ part_of (thing_of b) → r ≡ parted_by 2 one two → r ≡ numbered (Ok (Parted xs))
-  unfolding routed_of first_of second_of
-  two_told a b e x y q = q ∙ ap₂ (parted_by 2) x y ∙ sym (ap (λ (z : Things). numbered (Ok (Parted z))) e)
-
 -- what is told of a session in one state is told of it in the same state by another name
 pub told_of_lem : {st st' : State} {told : Told} → st ≡ st' → (links ducts used births order tree1 tree2 tree3 : List ℕ) (from to : ℕ) (out : List ℕ)
     → told ≡ between_by (session_in st links ducts used births order tree1 tree2 tree3) from to out

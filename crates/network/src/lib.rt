@@ -25,13 +25,6 @@ pub struct Loaded {
     pub links: u16,
 }
 
-// How many numbers at the start of the link table are links: two for each, and no more than there are.
-pub fn table_length(m: u16) -> usize
-    ensures { result ≡ min (2 * m) 8192 }
-{
-    (2 * (m as usize)).min(2 * (MAX_LINKS as usize))
-}
-
 // Link i joins a and b, in either writing.
 #[tactic(auto, unfolding(mondschein::specs::Network::joins, mondschein::specs::Network::former, mondschein::specs::Network::latter))]
 fn link_joins(links: &[u16], i: usize, a: u16, b: u16) -> bool

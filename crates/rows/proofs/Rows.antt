@@ -1,5 +1,5 @@
 -- Laws of rows in the code's terms: what an entry's comparison says of a mark, one mark more, a row filled with one number, and
--- positions. What `least` bounds is in Prefixes.antt.
+-- positions. Prefixes are in Prefixes.antt.
 use Rattle.std.proofs.Common.{◌≡◌, sym, ap, ap₂, ◌∙◌, subst, ◌≢◌, ⊎_elim, Bool, true, false, ◌||◌, cond, List, ◌++◌, append-nil, ℕ, ◌+◌, ◌≤◌, ◌<◌, arith, eqb, ltb, length, drop, replicate, drop_of_length-le, lt-ltb, le-ltb, eq-eqb, eqb-true, ◌⊎◌, min, Option, None, Some, MatchOption, EachIndex, unwrap_or, ne_eqb}
 use mathlib.Core.Bool.{or-true, or-false}
 use Rattle.mondschein.specs.Network.{at}

@@ -43,13 +43,6 @@ pub fn position_of_either(list: &[u16], a: u16, b: u16) -> Option<usize>
     list.iter().position(|x| *x == a || *x == b)
 }
 
-// The lesser of two numbers.
-pub fn least(a: usize, b: usize) -> usize
-    ensures { result ≡ min a b }
-{
-    a.min(b)
-}
-
 // The entry at i, or another past the end.
 pub fn entry_at<T: Copy>(row: &[T], i: usize, other: T) -> T
     ensures { result ≡ slice_index_or row.now i other }
