@@ -189,12 +189,9 @@ first_placed o e l q = with_room e o 0 refl l q
 
 -- one more ear, by the count r of the order
 module _ {r : ℕ} (o e : List ℕ) (b : ℕ) (h : r ≡ min b (length o)) where
-  -- the place in the order is within it
+  -- its place, by the numbers that are in the order
   pub place_here : {place : Place} → place ≡ place_in (take b o) e → place ≡ place_in (take r o) e
   place_here q = q ∙ ap (λ (l : List ℕ). place_in l e) (sym (least_take b o h))
-
-  pub place_within : {place : Place} → place ≡ place_in (take b o) e → place.at ≤ r
-  place_within q = omega (arith, ap (λ (p : Place). p.at) q, length-take b o)
 
   extend_count : 0 < r → length (extend (take b o) e) ≡ r + (length e - 2)
   extend_count l =

@@ -1,6 +1,6 @@
 -- Laws of rows in the code's terms: what an entry's comparison says of a mark, one mark more, a row filled with one number, and
 -- positions. Prefixes are in Prefixes.antt.
-use Rattle.std.proofs.Common.{◌≡◌, sym, ap, ap₂, ◌∙◌, subst, ◌≢◌, ⊎_elim, Bool, true, false, ◌||◌, cond, List, ◌++◌, append-nil, ℕ, ◌+◌, ◌≤◌, ◌<◌, arith, eqb, ltb, length, drop, replicate, drop_of_length-le, lt-ltb, le-ltb, eq-eqb, eqb-true, ◌⊎◌, min, Option, None, Some, MatchOption, EachIndex, unwrap_or, ne_eqb}
+use Rattle.std.proofs.Common.{◌≡◌, sym, ap, ap₂, ◌∙◌, subst, ◌≢◌, ⊎_elim, Bool, true, false, ◌||◌, cond, List, ◌++◌, append-nil, ℕ, ◌≤◌, ◌<◌, arith, eqb, ltb, length, drop, replicate, drop_of_length-le, lt-ltb, le-ltb, eq-eqb, eqb-true, ◌⊎◌, min, Option, None, Some, MatchOption, EachIndex, unwrap_or, ne_eqb}
 use mathlib.Core.Bool.{or-true, or-false}
 use Rattle.mondschein.specs.Network.{at}
 use Rattle.mondschein.specs.Order.{position}
@@ -37,15 +37,6 @@ module _ (l : List ℕ) (x : ℕ) where
 
   pub position_hit : (k : ℕ) → at l k ≡ x → position l x ≤ k
   position_hit k e = ⊎_elim (λ (h : k < position l x). clash (eq-eqb (at l k) x e) (first.before k h)) (λ (h : position l x ≤ k). h) (less? k (position l x))
-
-  pub position_miss : (k : ℕ) → k < length l → k ≤ position l x → at l k ≢ x → k + 1 ≤ position l x
-  position_miss k h m d =
-      ⊎_elim
-      (λ (h : k < position l x). omega arith)
-      (λ (g : position l x ≤ k).
-      let z : position l x ≡ k = omega arith in
-      absurd (d (subst (λ (j : ℕ). at l j ≡ x) z (position_found (omega arith)))))
-      (less? k (position l x))
 
   -- the position, of what a search for x answers
   pub position_is : (r : Option ℕ) → MatchOption r (EachIndex l (λ k. at l k ≢ x)) (λ i. (i < length l) × (at l i ≡ x) × ((k : ℕ) → k < i → at l k ≢ x)) → unwrap_or r (length l) ≡ position l x
