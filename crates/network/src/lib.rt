@@ -2,10 +2,10 @@
 // A table of 2 M or 2 M + 1 numbers has M links.
 #![tactic(auto)]
 
-ghost use Rattle.std.specs.Prelude.{◌≡◌, [], suc, min, ◌+◌, ◌*◌, ◌/◌, ◌≤◌, ◌<◌, eqb, length, unwrap_or, IfSome};
+ghost use Rattle.std.specs.Prelude.{◌≡◌, [], ℕ, Bool, suc, min, ◌+◌, ◌*◌, ◌/◌, ◌≤◌, ◌<◌, eqb, length, unwrap_or, IfSome};
 ghost use Rattle.mondschein.specs.Network.{low, size, joins, joined, link_of};
 ghost use Rattle.mondschein.specs.Judge.{loading_by, link_too_large, self_link, repeated_link, wrong_names};
-ghost use Rattle.network.specs.Index.{far_end, IndexedFrom, Indexed, Cleared};
+ghost use Rattle.network.specs.Index.{far_end, FirstLeading, IndexedFrom, Indexed, Cleared};
 ghost use Rattle.network.specs.Load.{network_of, table_of, load_answer, name_order, table_order};
 
 use refusals::Refusal;
@@ -118,22 +118,36 @@ pub fn make_index(links: &[u16], index: &mut [u16])
     fill_index(links, index);
 }
 
+// The first half-link of switch v that leads to a switch that passes.
+pub fn half_link_to<P: Fn(u16) -> bool>(
+    links: &[u16],
+    index: &[u16],
+    v: u16,
+    passes: P,
+) -> Option<usize>
+    requires indexed { IndexedFrom (table_of links.now) 0 index.now × (v < 1024) }
+    requires callable { P.IsAlwaysCallable passes }
+    ensures { (q : ℕ → Bool) → ((x : ℕ) (b : Bool) → P.post passes x b → b ≡ q x) → FirstLeading (table_of links.now) v q result }
+{
+    let end = 2 * (links.len() / 2);
+    let mut h = index[v as usize] as usize;
+    // The turns follow a chain of the index, so no count names them.
+    while h < end {
+        if passes(far_end(links, h)) {
+            return Some(h);
+        }
+        h = index[2048 + h] as usize;
+    }
+    None
+}
+
 // The lowest link that joins a and b, along the half-links of a.
 fn link_along(links: &[u16], index: &[u16], a: u16, b: u16) -> Option<usize>
     requires { IndexedFrom (table_of links.now) 0 index.now × (a < 1024) }
     ensures lowest { unwrap_or result (size (table_of links.now)) ≡ link_of (table_of links.now) a b }
     ensures within { IfSome result (λ i. i < size (table_of links.now)) }
 {
-    let m = links.len() / 2;
-    let mut h = index[a as usize] as usize;
-    // The turns follow a chain of the index, so no count names them.
-    while h < 2 * m {
-        if far_end(links, h) == b {
-            return Some(h / 2);
-        }
-        h = index[2048 + h] as usize;
-    }
-    None
+    half_link_to(links, index, a, |x| x == b).map(|h| h / 2)
 }
 
 // The lowest link that joins a and b: along the half-links of the one that has fewer, or by a scan.

@@ -1,12 +1,12 @@
 -- What the code's comparisons say of the switches that are still unborn after an ear, and of the links that lead to them.
--- `scan` turns a search over switches into one scan of the links; `along_hit` and `along_end` into one along the half-links of a switch.
-use Rattle.std.proofs.Common.{◌≡◌, ℕ, ◌*◌, ◌/◌, ◌≤◌, ◌<◌, Bool, true, false, not, ◌&&◌, ◌||◌, eqb, ltb, List, refl, sym, ap, ◌∙◌, subst, inl, inr, ⊎_elim, arith, lt-ltb, eq-eqb, ltb-true, eqb-true}
+-- `scan` turns a search over switches into one scan of the links; `along` into one along the half-links of a switch.
+use Rattle.std.proofs.Common.{◌≡◌, ℕ, ◌/◌, Bool, true, false, not, ◌&&◌, ◌||◌, eqb, ltb, List, Option, Some, None, is_some, refl, sym, ap, ◌∙◌, subst, inl, inr, ⊎_elim, arith, lt-ltb, eq-eqb, ltb-true, eqb-true}
 use Rattle.mondschein.specs.Network.{Network, any, size, former, latter, Joins, joined, holds}
 use Rattle.mondschein.proofs.Logic.{and_true, or_true, true_and, or_left, true_or, and_false, false_and}
 use Rattle.mondschein.proofs.Search.{any_true, true_any, false_any}
 use Rattle.mondschein.proofs.Links.{joined_adjacent, adjacent_joined}
-use Rattle.network.specs.Index.{far_end}
-use Rattle.network.proofs.Indexing.{Followed, half_joins, joins_half}
+use Rattle.network.specs.Index.{far_end, FirstLeading}
+use Rattle.network.proofs.Indexing.{half_joins, joins_half}
 use Rattle.rows.specs.Rows.{marked}
 use Rattle.unborn.specs.Neighbours.{leads_to}
 
@@ -53,20 +53,17 @@ scan net q v n =
     let (l, r) = and_true _ _ p in
     true_any (λ x. joined net v x && q x) n x (ltb-true x n l) (true_and _ _ (adjacent_joined net v x (i, m, c)) r))
 
--- a search over the switches below n, along the half-links of v: it met one that leads to a switch that passes, or came to the end
-module _ (net : Network) (q : ℕ → Bool) (v n h : ℕ) (f : Followed net v (λ x. ltb x n && q x) h) where
-  pub along_hit : h < 2 * size net → (ltb (far_end net h) n && q (far_end net h)) ≡ true → true ≡ any (λ x. joined net v x && q x) n
-  along_hit l t =
-      let (p, r) = and_true _ _ t in
-      let a = subst (λ (x : ℕ). Joins net (h / 2) x (far_end net h)) (f.own l) (half_joins net h) in
-      sym (true_any (λ x. joined net v x && q x) n (far_end net h) (ltb-true _ _ p) (true_and _ _ (adjacent_joined net v (far_end net h) (h / 2, omega arith, a)) r))
-
-  pub along_end : 2 * size net ≤ h → false ≡ any (λ x. joined net v x && q x) n
-  along_end l =
-      sym
-      (false_any (λ x. joined net v x && q x) n
-      (λ x m. false_and (joined net v x) (q x)
-      (λ t.
-      let (i, b, j) = joined_adjacent net v x t in
-      let (k, e, o, w) = joins_half net i v x j in
-      and_false (ltb x n) (q x) (ap (λ (y : ℕ). ltb y n && q y) (sym w) ∙ f.missed k (omega arith) o) (lt-ltb x n m))))
+-- a search over the switches below n, along the half-links of v: it met one that leads to a switch that passes, or there is none
+pub along : (net : Network) (q : ℕ → Bool) (v n : ℕ) (r : Option ℕ) → FirstLeading net v (λ x. ltb x n && q x) r → is_some r ≡ any (λ x. joined net v x && q x) n
+along net q v n None none =
+    sym
+    (false_any (λ x. joined net v x && q x) n
+    (λ x m. false_and (joined net v x) (q x)
+    (λ t.
+    let (i, b, j) = joined_adjacent net v x t in
+    let (k, e, o, w) = joins_half net i v x j in
+    and_false (ltb x n) (q x) (ap (λ (y : ℕ). ltb y n && q y) (sym w) ∙ none k (omega arith) o) (lt-ltb x n m))))
+along net q v n (Some h) (l, o, t, none) =
+    let (p, r) = and_true _ _ t in
+    let a = subst (λ (x : ℕ). Joins net (h / 2) x (far_end net h)) o (half_joins net h) in
+    sym (true_any (λ x. joined net v x && q x) n (far_end net h) (ltb-true _ _ p) (true_and _ _ (adjacent_joined net v (far_end net h) (h / 2, omega arith, a)) r))

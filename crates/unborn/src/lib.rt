@@ -75,16 +75,7 @@ fn unborn_along(
     requires { IndexedFrom (table_of links.now) 0 index.now × (v < 1024) × MarksOf ear.now (length ear.now) marks.now }
     ensures { result ≡ any (λ x. joined (table_of links.now) v x && not (marked births.now x || holds ear.now x)) n }
 {
-    let m = links.len() / 2;
-    let mut h = index[v as usize] as usize;
-    // The turns follow a chain of the index, so no count names them.
-    while h < 2 * m {
-        if unborn_below(n, births, ear, marks, network::far_end(links, h)) {
-            return true;
-        }
-        h = index[2048 + h] as usize;
-    }
-    false
+    network::half_link_to(links, index, v, |x| unborn_below(n, births, ear, marks, x)).is_some()
 }
 
 // A neighbour of v below n is still unborn after the ear: along the half-links of v, or by a scan.
