@@ -28,7 +28,7 @@ pub fn among(ear: &[u16], k: usize, marks: &[u8], x: u16) -> bool
     if let Some(mark) = marks.get(x as usize) {
         return 0 < *mark;
     }
-    ear[..k].contains(&x)
+    ear[..k].iter().any(|y| *y == x)
 }
 
 // Marks every number of the ear, where nothing is marked yet.
