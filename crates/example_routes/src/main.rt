@@ -2,23 +2,17 @@
 // things), or as the line of a refusal.
 #![tactic(auto)]
 
-use closing::Close;
-use network::Load;
-use routing::{Between, Loss, Things};
+use refusals::Refusal;
+use routing::{Loss, Routes, Things};
 use session::Session;
 
-// The numbers of a list, at most so many as the count, one space between them.
-fn write_list(list: &[u16], count: usize) {
-    let mut i = 0;
-    while i < list.len() {
-        if count <= i {
-            return;
-        }
+// The numbers of a list, one space between them.
+fn write_list(list: &[u16]) {
+    for (i, number) in list.iter().enumerate() {
         if 0 < i {
             io::write_all(1, b" ");
         }
-        io::print_decimal(1, list[i] as u64);
-        i += 1;
+        io::print_decimal(1, u64::from(*number));
     }
 }
 
@@ -27,38 +21,48 @@ fn write_form(word: &[u8], numbers: &[u16]) {
     io::write_all(1, b"(");
     io::write_all(1, word);
     io::write_all(1, b" ");
-    write_list(numbers, numbers.len());
+    write_list(numbers);
     io::write_all(1, b")\n");
 }
 
 // The line of a refusal.
-fn write_refusal(number: u8, place: u16) {
-    write_form(b"refused", &[number as u16, place]);
+fn write_refusal(refusal: Refusal) {
+    let number = refusal.number();
+    write_form(b"refused", &[u16::from(number), refusal.place()]);
+}
+
+// Writes what a call gives, or the line of its refusal.
+fn write_answer<T: Copy, F: FnOnce(T)>(answer: Result<T, Refusal>, write_values: F)
+    requires { F.IsAlwaysCallable write_values }
+{
+    match answer {
+        Ok(values) => write_values(values),
+        Err(refusal) => write_refusal(refusal),
+    }
 }
 
 // Loads a network into a fresh session, writes the answer, and gives the session after it.
 fn load(n: u16, links: &[u16], root: u16, first: u16, last: u16) -> Session {
     let loaded = session::load_flat(Session::empty(), n, links, &[], root, first, last);
-    let answer = loaded.answer;
-    match answer {
-        Load::Loaded(switches, size) => write_form(b"opened", &[switches, size]),
-        Load::Refused(number, place) => write_refusal(number, place),
-    }
+    write_answer(loaded.answer, |sizes| {
+        write_form(b"opened", &[sizes.switches, sizes.links])
+    });
     loaded.session
 }
 
 // Writes a thing whose loss parts two switches.
 fn write_loss(loss: Loss) {
-    match loss {
+    let index = match loss {
         Loss::Switch(switch) => {
             io::write_all(1, b" (switch ");
-            io::print_decimal(1, switch as u64);
+            switch
         }
-        Loss::Link(index) => {
+        Loss::Link(link) => {
             io::write_all(1, b" (link ");
-            io::print_decimal(1, index as u64);
+            link
         }
-    }
+    };
+    io::print_decimal(1, u64::from(index));
     io::write_all(1, b")");
 }
 
@@ -74,40 +78,43 @@ fn write_things(things: Things) {
     }
 }
 
+// Writes the counts of three walks, and the walks out of the slice.
+fn write_walks(from: u16, to: u16, counts: [u16; 3], walks: &[u16]) {
+    io::write_all(1, b"(routes ");
+    write_list(&[from, to]);
+    io::write_all(1, b" (");
+    write_list(&counts);
+    io::write_all(1, b") (");
+    let [a, b, c] = counts;
+    let all = usize::from(a) + usize::from(b) + usize::from(c);
+    write_list(rows::prefix(walks, all));
+    io::write_all(1, b"))\n");
+}
+
+// Writes what parts two switches, and both.
+fn write_parted(from: u16, to: u16, things: Things) {
+    io::write_all(1, b"(parted ");
+    write_list(&[from, to]);
+    write_things(things);
+    io::write_all(1, b")\n");
+}
+
 // Writes what routes of card k answers, and the walks out of the slice.
 fn between(s: Session, from: u16, to: u16) {
     let mut out = [0u16; 10];
     let answer = routes::between(s, from, to, &mut out);
-    match answer {
-        Between::Walks(a, b, c) => {
-            io::write_all(1, b"(routes ");
-            write_list(&[from, to], 2);
-            io::write_all(1, b" (");
-            write_list(&[a, b, c], 3);
-            io::write_all(1, b") (");
-            write_list(&out, (a as usize) + (b as usize) + (c as usize));
-            io::write_all(1, b"))\n");
-        }
-        Between::Parted(things) => {
-            io::write_all(1, b"(parted ");
-            write_list(&[from, to], 2);
-            write_things(things);
-            io::write_all(1, b")\n");
-        }
-        Between::Refused(number, place) => write_refusal(number, place),
-    }
+    write_answer(answer, |routes| match routes {
+        Routes::Walks(a, b, c) => write_walks(from, to, [a, b, c], &out),
+        Routes::Parted(things) => write_parted(from, to, things),
+    });
 }
 
 // Closes, writes the answer, and gives the session after it.
 fn close(s: Session) -> Session {
     let closing = session::close(s);
-    let answer = closing.answer;
-    match answer {
-        Close::Closed => {
-            io::write_all(1, b"(closed)\n");
-        }
-        Close::Refused(number, place) => write_refusal(number, place),
-    }
+    write_answer(closing.answer, |_| {
+        io::write_all(1, b"(closed)\n");
+    });
     closing.session
 }
 
