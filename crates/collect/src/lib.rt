@@ -170,7 +170,7 @@ fn answer(
 }
 
 // What is known between two bytes of an input: what is collected, the number of the line that comes, the count of its bytes so far,
-// and whether a line stopped the dialogue.
+// and whether a line stopped the dialogue: the other fields are known in either case, so it is a flag and no option.
 #[derive(Clone, Copy)]
 pub struct Reader {
     pub kept: Kept,

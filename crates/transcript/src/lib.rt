@@ -18,7 +18,8 @@ fn hold(line: &mut [u8], held: usize, byte: u8) -> usize
     held + 1
 }
 
-// What a block leaves of a line: the count of its bytes that are held, the place after them in the block, and whether it ends there.
+// What a block leaves of a line: the count of its bytes that are held, the place after them in the block, and whether it ends there:
+// count and place are known in either case, so it is a flag and no option.
 #[derive(Clone, Copy)]
 pub struct Held {
     pub held: usize,
