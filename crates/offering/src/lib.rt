@@ -32,6 +32,8 @@ fn index_links(st: State, links: &[u16], index: &mut [u16])
     network::make_index(in_place::stored(st.m, links), index);
 }
 
+// `ear` and `ears` have the two branches each: an index takes 20 KB of the stack and its making, so there is none where it does not pay.
+
 // Offers an ear: 19 on an empty session, 22 on a closed one, then checks 7 to 16.
 pub fn ear(
     st: &mut State,

@@ -13,7 +13,6 @@ use Rattle.order.specs.Placed.{placed, placed_count, place_in}
 use Rattle.order.specs.declared.Place.{Place}
 use Rattle.rows.proofs.Prefixes.{least_take}
 use Rattle.rows.proofs.Rows.{position_end, position_hit, position_found}
-use Rattle.std.specs.List.{copy_within}
 
 -- one search for both ends of an ear finds A
 module _ (o e : List ℕ) {k : ℕ} (found : k ≡ min (position o (at e 0)) (position o (at e (pred (length e))))) where
@@ -90,7 +89,7 @@ drop_take m n l h k =
 
 -- new numbers written into a gap of their count: what stood from there on was moved up by it
 filled : {g w : List ℕ} (o new : List ℕ) (i count n : ℕ) → i ≤ count → count + n ≤ length o
-    → g ≡ copy_within o i count (i + n)
+    → g ≡ take (i + n) o ++ (take (count - i) (drop i o) ++ drop (count + n) o)
     → w ≡ take i g ++ (new ++ drop (i + n) g)
     → w ≡ put (take count o) new i ++ drop (count + n) o
 filled {g} {w} o new i count n h room q r =
@@ -102,10 +101,7 @@ filled {g} {w} o new i count n h room q r =
     moved = take (count - i) (drop i o) ++ drop (count + n) o
 
     opened : g ≡ take (i + n) o ++ moved
-    opened =
-        q
-        ∙ append_assoc (take (i + n) o) (take (count - i) (drop i o)) (drop (i + n + (count - i)) o)
-        ∙ ap (λ (k : ℕ). take (i + n) o ++ (take (count - i) (drop i o) ++ drop k o)) (let z : i + n + (count - i) ≡ count + n = omega arith in z)
+    opened = q
 
     long : length (take (i + n) o) ≡ i + n
     long = omega (arith, length-take (i + n) o)
@@ -146,7 +142,7 @@ module _ (o e : List ℕ) where
 
 -- the new switches of a later ear, written at its place
 module _ (o e : List ℕ) (count : ℕ) (some : 1 ≤ count) (room : count + (length e - 2) ≤ length o) {place : Place} (there : place ≡ place_in (take count o) e)
-    {g w : List ℕ} (opened : g ≡ copy_within o place.at count (place.at + length (inner e))) where
+    {g w : List ℕ} (opened : g ≡ take (place.at + length (inner e)) o ++ (take (count - place.at) (drop place.at o) ++ drop (count + length (inner e)) o)) where
   inserted : (new : List ℕ) → new ≡ between (from_a (take count o) e) → w ≡ take place.at g ++ (new ++ drop (place.at + length (inner e)) g)
       → w ≡ extend (take count o) e ++ drop (count + (length e - 2)) o
   inserted new q t =

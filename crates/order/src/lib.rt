@@ -7,7 +7,8 @@ ghost use Rattle.mondschein.specs.Network.{at};
 ghost use Rattle.mondschein.specs.Order.{extend};
 ghost use Rattle.order.specs.Placed.{placed, placed_count, place_in};
 
-// Where the new switches of a later ear go in the order, and whether the ear is written from A to B.
+// Where the new switches of a later ear go in the order, and whether the ear is written from A to B: both are known of every ear, so the
+// flag is no option.
 #[derive(Clone, Copy)]
 pub struct Place {
     pub at: usize,
@@ -30,6 +31,16 @@ pub fn place_of(order: &[u16], born: u16, ear: &[u16]) -> Place
             at: list.len(),
             upward: false,
         },
+    }
+}
+
+// Moves the numbers from index at up to count by c places, the last one first. Not by `copy_within`, which asks the firmware for memmove.
+fn open_gap(order: &mut [u16], at: usize, count: usize, c: usize)
+    requires { (at ≤ count) × (count + c ≤ length order.old) }
+    ensures { order.new ≡ take (at + c) order.old ++ (take (count - at) (drop at order.old) ++ drop (count + c) order.old) }
+{
+    for k in (at..count).rev() {
+        order[k + c] = order[k];
     }
 }
 
@@ -70,7 +81,7 @@ pub fn insert(order: &mut [u16], born: u16, ear: &[u16], place: Place) -> u16
     }
     let at = place.at;
     let part = &ear[1..len - 1];
-    order.copy_within(at..count, at + part.len());
+    open_gap(order, at, count, part.len());
     if place.upward {
         order[at..at + part.len()].copy_from_slice(part);
     } else {

@@ -15,8 +15,8 @@ returns c =
     (elim c.if-place.branch [
       | then-place w ↦
           inserted_up c.args.order.now c.args.ear.now c.min-count.result some c.if-order-grown.false
-          (place_here c.args.order.now c.args.ear.now c.args.born c.min-count.ensures c.requires.3) c.copy_within.ensures.after w.if-place.true (w.order-is ∙ search (rules, overwrites, w.copy_from_slice.ensures.after))
+          (place_here c.args.order.now c.args.ear.now c.args.born c.min-count.ensures c.requires.3) c.open_gap.ensures w.if-place.true (w.order-is ∙ search (rules, overwrites, w.copy_from_slice.ensures.after))
       | else-place w ↦
           inserted_down c.args.order.now c.args.ear.now c.min-count.result some c.if-order-grown.false
-          (place_here c.args.order.now c.args.ear.now c.args.born c.min-count.ensures c.requires.3) c.copy_within.ensures.after w.if-place.false (w.order-is ∙ w.write_reversed.ensures)
+          (place_here c.args.order.now c.args.ear.now c.args.born c.min-count.ensures c.requires.3) c.open_gap.ensures w.if-place.false (w.order-is ∙ w.write_reversed.ensures)
     ])
