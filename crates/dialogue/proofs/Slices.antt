@@ -8,7 +8,6 @@ use native.Mathlib.Omega.{arith}
 use lib.ListN.{length, take, drop, drop_of_length-le, length-take, length-drop, length-append}
 use lib.Seq.{take_all, take-append-add, drop-append-add, drop-drop}
 use Rattle.mondschein.proofs.Logic.{less?}
-use Rattle.in_place.specs.InPlace.{SizedAs}
 use Rattle.collect.specs.Answering.{Keeps}
 use Rattle.rows.proofs.Prefixes.{least_take}
 
@@ -75,7 +74,7 @@ module _ (o : List ℕ) (w : ℕ) (h : w ≤ length o) where
           ∙ drop-drop r w o
 
 -- the lent slices are long enough, and as long as they were; the numbers past those of an ear are what they were
-pub record Lent (line₀ numbers₀ links₀ ducts₀ out₀ line numbers links ducts out : List ℕ) : Type 0 where
+pub record Lent (line₀ numbers₀ links₀ ducts₀ index₀ out₀ line numbers links ducts index out : List ℕ) : Type 0 where
   pub line_long : length line ≡ 6145
   pub numbers_long : 3072 ≤ length numbers
   pub links_long : length links ≡ 8192
@@ -85,18 +84,6 @@ pub record Lent (line₀ numbers₀ links₀ ducts₀ out₀ line numbers links 
   pub numbers_same : length numbers ≡ length numbers₀
   pub links_same : length links ≡ length links₀
   pub ducts_same : length ducts ≡ length ducts₀
+  pub index_same : length index ≡ length index₀
   pub out_same : length out ≡ length out₀
   pub numbers_kept : Keeps 3072 numbers₀ numbers
-
--- the session's arrays have their lengths, and the index the one that it had
-pub record Stored (l₀ d₀ u₀ b₀ o₀ p₀ q₀ t₀ i₀ l d u b o p q t i : List ℕ) : Type 0 where
-  pub sized : SizedAs l d u b o p q t
-  pub table_same : length l ≡ length l₀
-  pub row_same : length d ≡ length d₀
-  pub used_same : length u ≡ length u₀
-  pub births_same : length b ≡ length b₀
-  pub order_same : length o ≡ length o₀
-  pub tree1_same : length p ≡ length p₀
-  pub tree2_same : length q ≡ length q₀
-  pub tree3_same : length t ≡ length t₀
-  pub index_same : length i ≡ length i₀

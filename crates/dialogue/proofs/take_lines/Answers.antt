@@ -14,7 +14,6 @@ loop-next-preserved c = record {
       (line_taken _ _ _ _ _ _ _ _ _ _ _ _ _ c.take_line-called.auto.out c.take_line-called.ensures.takes_line c.take_line-called.ensures.keeps.0)
       c.min-written.result c.min-written.ensures;
   lent = search rules;
-  stored = search rules;
   indexed = c.take_line-called.ensures.keeps.2;
 }
 
