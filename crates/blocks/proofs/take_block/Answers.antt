@@ -7,6 +7,5 @@ loop-from-preserved c = record {
   stands = stands_lines c.loop-from.invariant.stands c.take_lines-taken.result.reader _ _ _ _ c.take_lines-taken.result.next _ c.take_lines-taken.ensures.takes_lines;
   within = c.take_lines-taken.ensures.next_in_bounds.0;
   lent = search rules;
-  stored = search rules;
   indexed = c.take_lines-taken.ensures.keeps.2;
 }
