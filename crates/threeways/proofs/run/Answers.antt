@@ -10,16 +10,19 @@ returns-in-Err c = tt
 pub returns-then-over : goal.returns-then-over
 unfolding EndsWith
 returns-then-over c =
-    led_over (led_block c.loop-turn.invariant.led (take c.in-Some.n c.read_block.new.block) c.in-Ok.known.reader _ _ _ _ c.in-Ok.ensures.takes) c.over.result c.over.ensures c.if-over.true
+    led_over (led_block c.loop-turn.invariant.led (take c.in-Some.n c.read_block.new.block) c.in-Ok.known _ _ _ _ c.in-Ok.ensures.takes) c.over.result c.over.ensures c.if-over.true
 
 pub loop-turn-preserved : goal.loop-turn-preserved
 loop-turn-preserved c = record {
-  led = led_block c.loop-turn.invariant.led (take c.in-Some.n c.read_block.new.block) c.in-Ok.known.reader _ _ _ _ c.in-Ok.ensures.takes;
+  led = led_block c.loop-turn.invariant.led (take c.in-Some.n c.read_block.new.block) c.in-Ok.known _ _ _ _ c.in-Ok.ensures.takes;
   lent = search rules;
-  stored = search rules;
-  indexed = c.in-Ok.ensures.keeps.1;
+  indexed = c.take_block.ensures.keeps.1;
 }
 
-pub returns : goal.returns
+pub returns-in_default : goal.returns-in_default
 unfolding EndsWith
-returns c = c.loop-turn.invariant.led
+returns-in_default c = c.loop-turn.invariant.led
+
+pub returns-after-loop-turn : goal.returns-after-loop-turn
+unfolding EndsWith
+returns-after-loop-turn c = c.loop-turn.invariant.led
