@@ -44,6 +44,17 @@ fn open_gap(order: &mut [u16], at: usize, count: usize, c: usize)
     }
 }
 
+// Writes the part from index at on, number by number: `copy_from_slice` asks the firmware for memmove here.
+fn write_at(order: &mut [u16], at: usize, part: &[u16])
+    requires { at + length part.now ≤ length order.old }
+    ensures { order.new ≡ take at order.old ++ (part.now ++ drop (at + length part.now) order.old) }
+{
+    let len = part.len();
+    for k in 0..len {
+        order[at + k] = part[k];
+    }
+}
+
 // Writes the part from index at on, its last number first.
 fn write_reversed(order: &mut [u16], at: usize, part: &[u16])
     requires { at + length part.now ≤ length order.old }
@@ -64,7 +75,7 @@ pub fn begin(order: &mut [u16], ear: &[u16]) -> u16
     if order.len() < len {
         return 0;
     }
-    order[..len].copy_from_slice(ear);
+    write_at(order, 0, ear);
     len as u16
 }
 
@@ -83,7 +94,7 @@ pub fn insert(order: &mut [u16], born: u16, ear: &[u16], place: Place) -> u16
     let part = &ear[1..len - 1];
     open_gap(order, at, count, part.len());
     if place.upward {
-        order[at..at + part.len()].copy_from_slice(part);
+        write_at(order, at, part);
     } else {
         write_reversed(order, at, part);
     }

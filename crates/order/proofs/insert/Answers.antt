@@ -1,5 +1,4 @@
-use Rattle.std.proofs.Common.{◌≤◌, ◌∙◌, arith, rules}
-use Rattle.std.proofs.lemmas.Slice.{overwrites}
+use Rattle.std.proofs.Common.{◌≤◌, ◌∙◌, arith}
 use Rattle.order.proofs.Insertion.{inserted_up, inserted_down, place_here, later_placed, later_not_placed}
 use Rattle.order.proofs.insert.Goals as goal
 use Rattle.order.proofs.insert.Goals.{then-place, else-place}
@@ -15,7 +14,7 @@ returns c =
     (elim c.if-place.branch [
       | then-place w ↦
           inserted_up c.args.order.now c.args.ear.now c.min-count.result some c.if-order-grown.false
-          (place_here c.args.order.now c.args.ear.now c.args.born c.min-count.ensures c.requires.3) c.open_gap.ensures w.if-place.true (w.order-is ∙ search (rules, overwrites, w.copy_from_slice.ensures.after))
+          (place_here c.args.order.now c.args.ear.now c.args.born c.min-count.ensures c.requires.3) c.open_gap.ensures w.if-place.true (w.order-is ∙ w.write_at.ensures)
       | else-place w ↦
           inserted_down c.args.order.now c.args.ear.now c.min-count.result some c.if-order-grown.false
           (place_here c.args.order.now c.args.ear.now c.args.born c.min-count.ensures c.requires.3) c.open_gap.ensures w.if-place.false (w.order-is ∙ w.write_reversed.ensures)
