@@ -15,7 +15,7 @@ use Rattle.judge.specs.Ear.{ear_answer}
 use Rattle.closing.specs.Closing.{close_answer}
 use Rattle.tables.specs.Tables.{tables_of, after_ear}
 use Rattle.walks.specs.Walks.{parent_answer, walk_answer}
-use Rattle.in_place.specs.declared.Stage.TheVariants.{Empty, Closed}
+use Rattle.in_place.specs.declared.Stage.TheVariants.{Empty}
 use Rattle.in_place.specs.declared.Session.{Session}
 use Rattle.in_place.specs.declared.State.{State}
 use Rattle.in_place.specs.Session.{session_of, network_in, tables_in, after_offer, with_tables, closed_with, third_in, loaded_by, offered_by, closed_by}

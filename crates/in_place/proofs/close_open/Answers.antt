@@ -1,4 +1,4 @@
-use Rattle.std.proofs.Common.{List, [], ℕ, sym, ap, ◌∙◌}
+use Rattle.std.proofs.Common.{List, [], ℕ, ap, ◌∙◌}
 use Rattle.std.specs.Prelude.{⊤}
 use Rattle.std.proofs.lemmas.Result.{err_from_is_err_and}
 use Rattle.in_place.specs.declared.Session.{Session}

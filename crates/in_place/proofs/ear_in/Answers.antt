@@ -1,4 +1,4 @@
-use Rattle.std.proofs.Common.{List, ℕ, sym, ap, refl, ◌∙◌}
+use Rattle.std.proofs.Common.{List, ℕ, sym, ap, ◌∙◌}
 use Rattle.mondschein.specs.Outcome.{settle}
 use Rattle.in_place.specs.declared.Session.{Session}
 use Rattle.in_place.specs.InPlace.{session_in}

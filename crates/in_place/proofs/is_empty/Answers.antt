@@ -1,4 +1,4 @@
-use Rattle.std.proofs.Common.{eq-eqb, ne_eqb, sym}
+use Rattle.std.proofs.Common.{eq-eqb, ne_eqb}
 use Rattle.mondschein.specs.EmptyEar.{is_empty}
 use Rattle.in_place.proofs.is_empty.Goals as goal
 

@@ -1,5 +1,4 @@
-use Rattle.std.proofs.Common.{sym, ap, ◌∙◌}
-use Rattle.mondschein.specs.Outcome.{Outcome}
+use Rattle.std.proofs.Common.{ap, ◌∙◌}
 use Rattle.judge.specs.Ear.{ear_answer}
 use Rattle.in_place.specs.declared.Session.{Session}
 use Rattle.in_place.specs.declared.State.{State}

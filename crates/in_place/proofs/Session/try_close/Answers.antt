@@ -1,4 +1,4 @@
-use Rattle.std.proofs.Common.{sym, ap, ◌∙◌}
+use Rattle.std.proofs.Common.{ap, ◌∙◌}
 use Rattle.mondschein.specs.Order.{shortest}
 use Rattle.closing.specs.Closing.{close_answer}
 use Rattle.in_place.specs.declared.Session.{Session}
