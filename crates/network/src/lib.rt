@@ -25,18 +25,17 @@ pub struct Loaded {
     pub links: u16,
 }
 
-// Link i joins a and b, in either writing.
+// Link i joins a and b, in either writing. An end is read where it is asked for, so that most links cost two comparisons.
 #[tactic(auto, unfolding(mondschein::specs::Network::joins, mondschein::specs::Network::former, mondschein::specs::Network::latter))]
 fn link_joins(links: &[u16], i: usize, a: u16, b: u16) -> bool
     requires { 2 * i + 1 < length links.now }
     ensures { result ≡ joins (table_of links.now) i a b }
 {
-    let x = links[2 * i];
-    let y = links[2 * i + 1];
-    (x == a && y == b) || (x == b && y == a)
+    (links[2 * i] == a && links[2 * i + 1] == b) || (links[2 * i] == b && links[2 * i + 1] == a)
 }
 
-// The lowest link that joins a and b.
+// The lowest link that joins a and b. It is kept a function of its own, so that the scan of a table has the registers to itself.
+#[inline(never)]
 pub fn link_of(links: &[u16], a: u16, b: u16) -> Option<usize>
     ensures lowest { unwrap_or result (size (table_of links.now)) ≡ link_of (table_of links.now) a b }
     ensures within { IfSome result (λ i. i < size (table_of links.now)) }
