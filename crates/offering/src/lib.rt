@@ -100,6 +100,26 @@ fn offer_each(
     Ok(accepted)
 }
 
+// The same, by an index of the links that is made for the whole list. Its room is cleared at the entry of the function that has it, so that a
+// list that needs none does not pay for it.
+fn offer_by_index(
+    st: &mut State,
+    links: &[u16],
+    used: &mut [u8],
+    births: &mut [u16],
+    order: &mut [u16],
+    tree1: &mut [u16],
+    tree2: &mut [u16],
+    list: &[u16],
+) -> Result<usize, ListRefusal>
+    requires { (length links.now ≡ 8192) × (length order.old ≡ 1024) }
+    ensures { ListsIn st.old links.now used.old births.old order.old tree1.old tree2.old list.now result st.new used.new births.new order.new tree1.new tree2.new }
+{
+    let mut index = [0u16; network::INDEX_LENGTH];
+    index_links(*st, links, &mut index);
+    offer_each(st, links, &index, used, births, order, tree1, tree2, list)
+}
+
 // Offers a list of ears, each preceded by its count of numbers: one after another, up to the first refusal. A list of no ears makes no
 // offer, at any stage.
 pub fn ears(
@@ -116,9 +136,7 @@ pub fn ears(
     ensures { ListsIn st.old links.now used.old births.old order.old tree1.old tree2.old list.now result st.new used.new births.new order.new tree1.new tree2.new }
 {
     if index_pays(*st, list.len()) {
-        let mut index = [0u16; network::INDEX_LENGTH];
-        index_links(*st, links, &mut index);
-        return offer_each(st, links, &index, used, births, order, tree1, tree2, list);
+        return offer_by_index(st, links, used, births, order, tree1, tree2, list);
     }
     offer_each(st, links, &[], used, births, order, tree1, tree2, list)
 }
