@@ -69,16 +69,21 @@ pub fn add_in(
 pub fn add(mut r: Report, s: Session) -> Adding
     ensures { adding_outcome result ≡ reported_by r s }
 {
+    let links = s.links;
+    let ducts = s.ducts;
+    let tree1 = s.tree1;
+    let tree2 = s.tree2;
+    let tree3 = s.tree3;
     let answer = add_in(
         r.sessions,
         &mut r.two,
         &mut r.three,
-        s.state(),
-        &s.links,
-        &s.ducts,
-        &s.tree1,
-        &s.tree2,
-        &s.tree3,
+        session::state_of(s),
+        &links,
+        &ducts,
+        &tree1,
+        &tree2,
+        &tree3,
     );
     r.sessions = answer.unwrap_or(r.sessions);
     Adding { answer, report: r }

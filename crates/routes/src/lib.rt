@@ -49,5 +49,6 @@ pub fn between_in(
 pub fn between(s: Session, from: u16, to: u16, out: &mut [u16]) -> Result<Routes, Refusal>
     ensures { told_by result out.new ≡ between_by s from to out.old }
 {
-    between_in(s.state(), &s.links, from, to, out)
+    let links = s.links;
+    between_in(session::state_of(s), &links, from, to, out)
 }

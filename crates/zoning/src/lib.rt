@@ -48,5 +48,7 @@ pub fn zones_in(
 pub fn zones(s: Session, n1: u16, n2: u16, n3: u16, out: &mut [u16]) -> Result<(), Refusal>
     ensures { (zoned_answer result ≡ (zoned_by s n1 n2 n3 out.old).answer) × (out.new ≡ (zoned_by s n1 n2 n3 out.old).after) }
 {
-    zones_in(s.state(), &s.births, &s.order, n1, n2, n3, out)
+    let births = s.births;
+    let order = s.order;
+    zones_in(session::state_of(s), &births, &order, n1, n2, n3, out)
 }

@@ -8,4 +8,4 @@ use Rattle.report.proofs.add.Goals as goal
 pub returns : goal.returns
 returns c =
     added_count c.unwrap_or.ensures (c.add_in-answer.ensures c.args.s.used c.args.s.births c.args.s.order)
-    ∙ ap (λ (st : State). reported_by c.args.r (session_in st c.args.s.links c.args.s.ducts c.args.s.used c.args.s.births c.args.s.order c.args.s.tree1 c.args.s.tree2 c.args.s.tree3)) c.state.ensures
+    ∙ ap (λ (st : State). reported_by c.args.r (session_in st c.args.s.links c.args.s.ducts c.args.s.used c.args.s.births c.args.s.order c.args.s.tree1 c.args.s.tree2 c.args.s.tree3)) c.state_of.ensures

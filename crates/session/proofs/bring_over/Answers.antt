@@ -9,6 +9,6 @@ pub returns : goal.returns
 returns c =
     let s = c.args.s in
     ap (λ (st : State). record { answer = bring_answer c.bring_over-brought.result; after = session_in st s.links s.ducts s.used s.births s.order s.tree1 s.tree2 c.bring_over-brought.new.tree3 })
-    (sym c.state.ensures)
+    (sym c.state_of.ensures)
     ∙ c.bring_over-brought.ensures s.ducts s.used s.order s.tree1 s.tree2
-    ∙ ap (λ (st : State). brought_by (with_state s st)) c.state.ensures
+    ∙ ap (λ (st : State). brought_by (with_state s st)) c.state_of.ensures
