@@ -30,7 +30,7 @@ fn reply_to_load(answer: Result<Loaded, Refusal>, out: &mut [u8]) -> usize
 {
     match answer {
         Ok(loaded) => replies::write_opened(out, loaded.switches, loaded.links),
-        Err(refusal) => replies::write_refused(out, refusal),
+        Err(refusal) => replies::write_refusal(out, refusal),
     }
 }
 
@@ -42,7 +42,7 @@ fn reply_to_ear(answer: Result<u16, Refusal>, out: &mut [u8]) -> usize
 {
     match answer {
         Ok(count) => replies::write_new(out, count),
-        Err(refusal) => replies::write_refused(out, refusal),
+        Err(refusal) => replies::write_refusal(out, refusal),
     }
 }
 
@@ -54,7 +54,7 @@ fn reply_to_close(answer: Result<(), Refusal>, out: &mut [u8]) -> usize
 {
     match answer {
         Ok(()) => replies::write_closed(out),
-        Err(refusal) => replies::write_refused(out, refusal),
+        Err(refusal) => replies::write_refusal(out, refusal),
     }
 }
 
@@ -75,7 +75,7 @@ fn reply_to_walk(
             let switches = rows::prefix(route, usize::from(count));
             replies::write_walk(out, switch, tree, switches)
         }
-        Err(refusal) => replies::write_refused(out, refusal),
+        Err(refusal) => replies::write_refusal(out, refusal),
     }
 }
 

@@ -97,13 +97,21 @@ pub fn write_new(out: &mut [u8], count: u16) -> usize
     write_line(out, b"new", &[count])
 }
 
-// Writes the reply to a call that is refused: the refusal's number and its place.
-pub fn write_refused(out: &mut [u8], refusal: Refusal) -> usize
+// Writes the reply to a call that is refused: a number and a place.
+pub fn write_refused(out: &mut [u8], number: u8, place: u16) -> usize
+    requires { 32 ≤ length out.old }
+    ensures { Printed (reply (refused number place)) out.old result out.new }
+{
+    write_line(out, b"refused", &[u16::from(number), place])
+}
+
+// The same of a refusal by name.
+pub fn write_refusal(out: &mut [u8], refusal: Refusal) -> usize
     requires { 32 ≤ length out.old }
     ensures { Printed (reply (refused (number refusal) (place refusal))) out.old result out.new }
 {
     let number = refusal.number();
-    write_line(out, b"refused", &[u16::from(number), refusal.place()])
+    write_refused(out, number, refusal.place())
 }
 
 // Writes the reply to a close that succeeds.
