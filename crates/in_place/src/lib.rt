@@ -1,4 +1,4 @@
-// What a session is, and ear, close, parent and walk in place: over what it holds beside its arrays, by value, and the arrays, lent.
+// What a session is, and ear, close, parent and walk in place: over what it holds beside its arrays, lent where a call writes it, and the arrays, lent.
 // An index of the links may be lent beside them; a slice of another length than an index means that there is none.
 #![tactic(auto)]
 

@@ -92,6 +92,16 @@ ends_done ls row i h = ap (λ (k : List Link). fitting (ends_of k) row) (take_al
 pub ducts_done : (ls : List Link) (row : List ℕ) (i : ℕ) → length ls ≤ i → fitting (ducts_of (take i ls)) row ≡ fitted (ducts_of ls) row
 ducts_done ls row i h = ap (λ (k : List Link). fitting (ducts_of k) row) (take_all i ls h) ∙ fitting_fitted (ducts_of ls) row
 
+-- a fitted list is as long as the row
+fitting_length : (l row : List ℕ) → length (fitting l row) ≡ length row
+unfolding fitting
+fitting_length [] row = refl
+fitting_length (x ∷ l) [] = refl
+fitting_length (x ∷ l) (y ∷ row) = ap suc (fitting_length l row)
+
+pub fitted_length : (l row : List ℕ) → length (fitted l row) ≡ length row
+fitted_length l row = ap length (sym (fitting_fitted l row)) ∙ fitting_length l row
+
 -- where there is room for all of it, it stands at the start
 pub fitted_first : (l row : List ℕ) → length l ≤ length row → take (length l) (fitted l row) ≡ l
 unfolding fitting
@@ -102,7 +112,15 @@ fitted_first l row h = ap (λ (k : List ℕ). take (length l) k) (sym (fitting_f
     go (x ∷ l) [] h = absurd (omega (arith, h))
     go (x ∷ l) (y ∷ row) h = ap (λ (k : List ℕ). x ∷ k) (go l row (omega (arith, h)))
 
--- what a caller reads: of no more records than there is room for, their numbers at the start of the rows
+-- what a caller reads: the rows' lengths, and, of no more records than there is room for, their numbers at the start of the rows
+pub flat_ends_length : (ls : List Link) → length (flat_of ls).ends ≡ 8192
+unfolding flat_of
+flat_ends_length ls = fitted_length (ends_of ls) (replicate 8192 0) ∙ length-replicate {A = ℕ} 8192 0
+
+pub flat_ducts_length : (ls : List Link) → length (flat_of ls).ducts ≡ 4096
+unfolding flat_of
+flat_ducts_length ls = fitted_length (ducts_of ls) (replicate 4096 0) ∙ length-replicate {A = ℕ} 4096 0
+
 pub flat_ends : (ls : List Link) → length ls ≤ 4096 → take (2 * length ls) (flat_of ls).ends ≡ ends_of ls
 unfolding flat_of
 flat_ends ls h =

@@ -23,6 +23,10 @@ visited_walk root p (suc k) v left q = go (eqb v root) left q (visited_walk root
     go false zero q next = absurd (omega (arith, walk_bound root p k (p v)))
     go false (suc left) q next = ap (λ (l : List ℕ). v ∷ l) (next left (omega arith))
 
+-- none of them is written yet, and all are to come
+pub visited_begin : (p : ℕ → ℕ) (left : ℕ) (out : List ℕ) (v : ℕ) → take 0 out ++ (visited p (left - 0) v ++ drop (suc left) out) ≡ visited p left v ++ drop (suc left) out
+visited_begin p left out v = let e : left - 0 ≡ left = omega arith in rw e
+
 -- ---- a loop that writes them from the front into xs: i of them stand there, and x is the next
 module _ (p : ℕ → ℕ) (left : ℕ) (xs : List ℕ) where
   pub visited_next : (x i : ℕ) → i < left → i < length xs
